@@ -1,8 +1,6 @@
 //! Queries over a region, answered in turn by the plain planner of baseline.rs and by the search of product_search without its contracts:
-//! over the network, or, where a hierarchy is named, over its phase graph, with the journey unpacked; and by a model of another search. Arrivals
-//! are compared.
+//! over the network, or, where a hierarchy is named, over its phase graph, with the journey unpacked. Arrivals are compared.
 mod baseline;
-mod correcting;
 mod hierarchy;
 mod mode_network;
 mod phase_graph;
@@ -13,7 +11,6 @@ mod search_laws;
 mod shim;
 mod unpack;
 
-use correcting::Board;
 use baseline::{parse, read_asked, search, Automaton, Region};
 use hierarchy::Hierarchy;
 use mode_network::Network;
@@ -37,7 +34,6 @@ struct Asked {
 struct Room {
     workspace: Workspace,
     marks: MarkTable,
-    board: Board,
 }
 
 fn read(region: &Region, line: &str) -> Asked {
@@ -116,14 +112,6 @@ fn by_search(network: &Network, hierarchy: Option<&Hierarchy>, room: &mut Room, 
     Some(arrival? as u64)
 }
 
-/// By the model whose labels are corrected; the journey is not unpacked.
-fn by_board(network: &Network, hierarchy: Option<&Hierarchy>, room: &mut Room, asked: &Asked) -> Option<u64> {
-    let prepared = Prepared::of(network, hierarchy, room, asked).ok()?;
-    let arrival = correcting::arrival(&mut room.board, &prepared.question(asked));
-    prepared.graph.give_back(&mut room.marks);
-    Some(arrival? as u64)
-}
-
 /// The arrivals of all, and the seconds that they took.
 fn timed(all: &[Asked], mut one: impl FnMut(&Asked) -> Option<u64>) -> (Vec<Option<u64>>, f64) {
     let start = Instant::now();
@@ -142,18 +130,14 @@ fn main() {
     let network = Network::of(Region::read(&text(region)).unwrap_or_else(|e| panic!("{region}: {e}")));
     let all: Vec<Asked> = text(queries).lines().map(|line| read(&network.region, line)).collect();
     let over = over.map(|path| hierarchy::lists::read(&std::fs::read(path).unwrap_or_else(|e| panic!("{path}: {e}"))));
-    let mut room = Room { workspace: Workspace::new(Global), marks: MarkTable::new(Global), board: Board::new() };
-    let (mut plain, mut stripped, mut corrected) = (f64::MAX, f64::MAX, f64::MAX);
+    let mut room = Room { workspace: Workspace::new(Global), marks: MarkTable::new(Global) };
+    let (mut plain, mut stripped) = (f64::MAX, f64::MAX);
     for _ in 0..rounds.parse().expect("a number of rounds") {
         let (first, took) = timed(&all, |asked| by_baseline(&network, asked));
         plain = plain.min(took);
         let (second, took) = timed(&all, |asked| by_search(&network, over.as_ref(), &mut room, asked));
         stripped = stripped.min(took);
         assert_eq!(first, second, "the arrivals differ");
-        let (third, took) = timed(&all, |asked| by_board(&network, over.as_ref(), &mut room, asked));
-        corrected = corrected.min(took);
-        assert_eq!(first, third, "the arrivals differ");
     }
     println!("plain Rust {plain:.4} s, without contracts {stripped:.4} s, ratio {:.3}", stripped / plain);
-    println!("with labels that are corrected {corrected:.4} s, ratio {:.3}", corrected / plain);
 }

@@ -1,6 +1,6 @@
--- How the search begins, and what it has found where it ends.
-use Rattle.std.proofs.Common.{◌≡◌, ℕ, ◌+◌, ◌*◌, ◌^◌, ◌<◌, ◌≤◌, inl, inr, Bool, true, false, ◌&&◌, List, Some, None, refl, sym, ◌∙◌, ap, subst, arith}
-use Rattle.std.specs.Prelude.{Option, IsTrue, Contains, All, length, slice_index}
+-- How far the search goes, and what it has found where it ends.
+use Rattle.std.proofs.Common.{◌≡◌, ℕ, ◌+◌, ◌-◌, ◌^◌, ◌<◌, ◌≤◌, inl, inr, true, false, ◌&&◌, List, Some, None, refl, sym, ◌∙◌, ap, subst, arith}
+use Rattle.std.specs.Prelude.{Option, IsTrue, Contains, slice_get}
 use Rattle.std.specs.Bool.{Decides}
 use Rattle.std.specs.BTreeSet as sorted
 use Rattle.std.specs.BTreeSet.{BTreeSet}
@@ -9,143 +9,129 @@ use Rattle.std.specs.Cmp.{unsigned_ties}
 use Rattle.std.proofs.lemmas.Bool.{false≢true, cases_lt, and_parts, and_from}
 use Rattle.std.proofs.lemmas.Bool.Decides.{Decides-eqb}
 use Rattle.std.proofs.lemmas.Map.Made.{is_member-Decides}
-use Rattle.std.proofs.lemmas.List.Elements.{All-contains}
-use Rattle.std.proofs.Math.Nat.{mul-le-mul}
 use Rattle.search_laws.specs.GraphLaws.{GraphMeaning, IsLawfulGraph}
 use Rattle.search_laws.specs.LabelLaws.{LabelsMeaning, IsLawfulLabels}
 use Rattle.search_laws.specs.Walks.{ArrivesAt}
-use Rattle.product_search.specs.declared.row.Reached.{Reached}
-use Rattle.product_search.specs.declared.frontier.Settled.{Settled}
+use Rattle.search_laws.specs.Fresh.{RunRides}
+use Rattle.search_laws.specs.declared.given.GivenRuns.{GivenRuns}
+use Rattle.product_search.specs.declared.row.Taken.{Taken}
+use Rattle.product_search.specs.declared.frontier.Scan.{Scan}
 use Rattle.product_search.specs.declared.frontier.Frontier.{Frontier}
-use Rattle.product_search.specs.Reach.{IsReachedAt, IsWithin, IsToList}
+use Rattle.product_search.specs.Reach.{IsReachedAt, IsWithin}
 use Rattle.product_search.specs.Answer.{IsArrival}
-use Rattle.product_search.specs.inside.Waiting.{reached_at, KeepsNumbers, IsQueueRight, NobodyWaits, SameReached, SettlesLeast, is_same}
-use Rattle.product_search.specs.inside.Exploring.{IsSettledBy, Offers, IsStartAmong, IsSuccessor, StartIsReached}
-use Rattle.product_search.specs.inside.Searching.{unsettled, unsettled_at, count_unless, is_settled, IsTracedTo, IsSearching, IsSearched, IsSettledAt, IsEnd, IsExplored, end_arrival}
-use Rattle.product_search.proofs.QueueLemmas.{same_parts}
-use Rattle.product_search.proofs.OfferLemmas.{offers_none}
-use Rattle.product_search.proofs.SumLemmas.{sum_below-le}
-use Rattle.product_search.proofs.ReachLemmas.{tight, within_down, complete}
-use Rattle.product_search.proofs.StepLemmas as step
+use Rattle.product_search.specs.inside.Waiting.{rows, ways, IsFrontier, IsWanted, Takes}
+use Rattle.product_search.specs.inside.Exploring.{AreGivenReached, ArcIsReached, Offers, IsSuccessor}
+use Rattle.product_search.specs.inside.Searching.{IsSearching, IsScanning, IsSearched, IsOfWay, IsEndAt, IsNoEndAt, GoesTo, EndsWith, end_arrival}
+use Rattle.product_search.proofs.ReachLemmas.{way_reached, row_wanted, wanted_down}
+use Rattle.product_search.proofs.ListLemmas.{within_down, listed_before, listed_wanted}
+use Rattle.product_search.proofs.StepLemmas.{KeepsRows, keeps_same, way_still, wanted_still, reached_same, takes_scanning, scanning_until, scanning_ends, scanning_on}
+use Rattle.product_search.proofs.GivenLemmas.{given_stays}
 
--- ---- the beginning
+-- ---- where the search goes to
 
-count_unless-le : (b : Bool) → count_unless b ≤ 1
-count_unless-le true = omega arith
-count_unless-le false = omega arith
+-- it stays so where rows and ways do
+pub goes_on : (l : LabelsMeaning) (targets : List ℕ) (dep : ℕ) (bound : Option ℕ) (old new : Frontier) → new.base ≡ old.base → new.until ≡ old.until → KeepsRows old new
+    → ((n : ℕ) (w : Taken) → slice_get (ways old) n ≡ Some w → slice_get (ways new) n ≡ Some w) → (end : Option Scan) → GoesTo l targets dep bound old end → GoesTo l targets dep bound new end
+goes_on l targets dep bound old new base until kept stay None to = until ∙ to
+goes_on l targets dep bound old new base until kept stay (Some s) to =
+    let of = to.is in
+    let now = kept (of.way).row of.row of.leads in
+    record {
+      is = record {
+        number = of.number;
+        way = of.way;
+        known = stay of.number of.way of.known;
+        link = of.link;
+        row = now.0;
+        leads = now.1;
+        node = of.node ∙ sym (now.2).node;
+        state = of.state ∙ sym (now.2).state;
+        delay = of.delay;
+      };
+      ends = to.ends;
+      last = until ∙ to.last;
+      soon = to.soon;
+      within = subst (λ b. IsWithin bound (b + s.delay)) (sym base) to.within;
+    }
 
-pub unsettled-le : (g : GraphMeaning) (l : LabelsMeaning) (f : Frontier) → unsettled g l f ≤ g.nodes * l.states
-unsettled-le g l f = sum_below-le g.nodes (unsettled_at l f) l.states
-    (λ v. omega (arith, sum_below-le l.states (λ q. count_unless (is_settled (reached_at f v q))) 1 (λ q. count_unless-le (is_settled (reached_at f v q)))))
+-- what is wanted is within the bound
+pub goes_within : (l : LabelsMeaning) (targets : List ℕ) (dep : ℕ) (bound : Option ℕ) (f : Frontier) → f.base ≡ dep → IsWithin bound dep → (end : Option Scan)
+    → GoesTo l targets dep bound f end → (t : ℕ) → t < f.base + f.until → IsWithin bound t
+goes_within l targets dep bound f base in_bound None to t lt = listed_before dep bound None f base in_bound to t lt
+goes_within l targets dep bound f base in_bound (Some s) to t lt = within_down bound t (f.base + s.delay) (omega (arith, lt, to.last)) to.within
 
-module _ (g : GraphMeaning) (l : LabelsMeaning) (starts targets : List ℕ) (dep : ℕ) (bound : Option ℕ) (f0 f : Frontier)
-    (empty : (v q : ℕ) → reached_at f0 v q ≡ None) (in_range : All (λ v. v < g.nodes) starts) (in_bound : IsWithin bound dep)
-    (right : IsQueueRight f) (offers : Offers f0 f (IsStartAmong l starts dep))
-    (reached : (k : ℕ) → k < length starts → StartIsReached f l dep (slice_index starts k)) where
-  all_starts : (v q : ℕ) (x : Reached) → reached_at f v q ≡ Some x → IsStartAmong l starts dep v q x
-  all_starts v q x is = elim (offers.changes v q) [
-    | inl same ↦ (let e : Some x ≡ None = sym is ∙ same ∙ empty v q in cc)
-    | inr n ↦ (let e : Some n.0 ≡ Some x = sym n.1 ∙ is in let same : n.0 ≡ x = cc in subst (λ y. IsStartAmong l starts dep v q y) same n.2)
-  ]
+-- it goes to an end that was taken
+pub goes_to_end : (g : GraphMeaning) (l : LabelsMeaning) (starts targets : List ℕ) (dep : ℕ) (bound : Option ℕ) (P : ℕ → ℕ → ℕ → Type 0) (f : Frontier) (s : Scan)
+    → IsWithin bound dep → IsScanning g l starts dep P f s → IsEndAt l targets s.node s.state → s.delay < f.until → (end : Option Scan) → GoesTo l targets dep bound f end
+    → GoesTo l targets dep bound (record f { until = s.delay }) (Some s)
+goes_to_end g l starts targets dep bound P f s in_bound scanning ends early end to =
+    let last = (scanning.right).last_ways scanning.number scanning.row scanning.known in
+    record {
+      is = record {
+        number = (scanning.row).way;
+        way = last.0;
+        known = (last.1).known;
+        link = scanning.link;
+        row = scanning.row;
+        leads = ap (λ k. slice_get (rows f) k) (last.1).row ∙ scanning.known;
+        node = scanning.node;
+        state = scanning.state;
+        delay = scanning.delay ∙ sym (last.1).delay;
+      };
+      ends = ends;
+      last = refl;
+      soon = omega (arith, scanning.delay, (scanning.right).soon scanning.number scanning.row scanning.known);
+      within = goes_within l targets dep bound f scanning.base in_bound end to (f.base + s.delay) (omega (arith, early));
+    }
 
-  none_settled : {G : Type 0} → (v q : ℕ) (x : Reached) → reached_at f v q ≡ Some x → x.settled ≡ true → G
-  none_settled v q x is settled = absurd (false≢true (sym (ap (λ (y : Reached). y.settled) (all_starts v q x is).as_made) ∙ settled))
+-- ---- a turn
 
-  traced : (v q : ℕ) (x : Reached) → reached_at f v q ≡ Some x → IsTracedTo g l starts dep (λ w r. 0) f v q x x.parent
-  traced v q x is = let s = all_starts v q x is in
-      rw (ap (λ (y : Reached). y.parent) s.as_made)
-      (record { starts_there = s.starts_there; is_state = s.is_state; is_start = s.is_start; at = ap (λ (y : Reached). y.at) s.as_made })
+-- where s was taken
+module _ (g : GraphMeaning) (l : LabelsMeaning) (starts targets : List ℕ) (dep : ℕ) (bound : Option ℕ) (f f1 : Frontier) (s : Scan) (takes : Takes f f1 s) where
+  pub goes_taken : (end : Option Scan) → GoesTo l targets dep bound f end → GoesTo l targets dep bound f1 end
+  goes_taken = goes_on l targets dep bound f f1 (takes.same).base (takes.same).until (keeps_same f f1 (takes.same).rows) (way_still f f1 takes.same)
 
-  pub searching_begins : IsSearching g l starts targets dep bound f
-  searching_begins = record {
-    right = right;
-    in_range = λ v q x is. (All-contains (λ v. v < g.nodes) starts v in_range (all_starts v q x is).starts_there, (all_starts v q x is).is_state);
-    depth = λ v q. 0;
-    traced = traced;
-    shallow = λ v q x is. omega (arith, unsettled-le g l f);
-    bounded = λ v q x is. omega (arith, ap (λ (y : Reached). y.at) (all_starts v q x is).as_made, unsettled-le g l f);
-    within = λ v q x is. subst (λ (y : Reached). IsWithin bound y.at) (sym (all_starts v q x is).as_made) in_bound;
-    starts_reached = reached;
-    in_order = λ v q w r u x is settled waits. none_settled v q x is settled;
-    closed = λ v q x is settled i lt. none_settled v q x is settled;
-    no_end = λ v q x is settled target accepts. none_settled v q x is settled;
-  }
+  pub given_taken : (rides : RunRides) (given : GivenRuns) → AreGivenReached rides l f given → AreGivenReached rides l f1 given
+  given_taken rides given = given_stays l rides f f1 given (wanted_still f f1 takes.same) (reached_same f f1 (takes.same).base (takes.same).rows)
 
--- ---- the times
+  module _ (searching : IsSearching g l starts dep (IsNoEndAt l targets) f) where
+    pub scanning : IsScanning g l starts dep (IsNoEndAt l targets) f1 s
+    scanning = takes_scanning g l starts dep (IsNoEndAt l targets) f f1 s searching takes
 
-pub few_states : (g : GraphMeaning) → IsLawfulGraph g → (l : LabelsMeaning) → IsLawfulLabels l → g.nodes * l.states ≤ 2 ^ 41
-few_states g lawful l labels = mul-le-mul lawful.few_nodes labels.few_states
+    early : s.delay < f1.until
+    early = omega (arith, takes.early, (takes.same).until)
 
-pub not_above : (g : GraphMeaning) → IsLawfulGraph g → (l : LabelsMeaning) → IsLawfulLabels l → (dep at u : ℕ)
-    → at + 2 ^ 57 * u ≤ dep + 2 ^ 57 * (g.nodes * l.states) → at ≤ dep + 2 ^ 98
-not_above g lawful l labels dep at u le = omega (arith, few_states g lawful l labels)
+    soon : s.delay < 2 ^ 64 - 1
+    soon = let known = scanning in omega (arith, known.delay, (known.right).soon known.number known.row known.known)
 
--- ---- the end
+    -- if it is an end, the search goes up to it
+    pub searching_to : IsSearching g l starts dep (IsNoEndAt l targets) (record f1 { until = s.delay })
+    searching_to = scanning_ends g l starts dep (IsNoEndAt l targets) (record f1 { until = s.delay }) s refl
+        (scanning_until g l starts dep s.delay (IsNoEndAt l targets) f1 s (omega (arith, early)) (λ all. absurd (omega (arith, all, soon))) scanning)
 
-module _ (g : GraphMeaning) (lawful : IsLawfulGraph g) (l : LabelsMeaning) (labels : IsLawfulLabels l) (starts targets : List ℕ) (dep : ℕ) (bound : Option ℕ)
-    (f f1 : Frontier) (s : Settled) (searching : IsSearching g l starts targets dep bound f) (right : IsQueueRight f1) (least : SettlesLeast f f1 s) where
-  no_offers : Offers f1 f1 (IsSuccessor g l bound s)
-  no_offers = offers_none f1 (IsSuccessor g l bound s)
+    pub given_to : (rides : RunRides) (given : GivenRuns) → AreGivenReached rides l f given → AreGivenReached rides l (record f1 { until = s.delay }) given
+    given_to rides given reached = given_stays l rides f1 (record f1 { until = s.delay }) given
+        (λ t is. elim is [ inl all ↦ absurd (omega (arith, all, soon)) | inr lt ↦ inr (omega (arith, lt, early)) ])
+        (reached_same f1 (record f1 { until = s.delay }) refl refl) (given_taken rides given reached)
 
-  complete_before : (v q t : ℕ) → IsReachedAt g l starts dep v q t → t < s.at → IsSettledAt f1 v q t
-  complete_before v q t reached lt =
-      let entry_within = searching.within s.node s.state (least.entry) least.waited in
-      let known = complete g lawful l starts targets dep bound f searching t (within_down bound t (least.entry).at (omega (arith, least.at)) entry_within)
-      (λ w r u le waits. (let late : s.at ≤ u = least.least w r u waits in omega arith)) v q reached in
-      (known.0, step.settled_stays f f1 s least v q known.0 known.1 known.2, known.2, known.3)
+    pub goes_to : IsWithin bound dep → IsEndAt l targets s.node s.state → (end : Option Scan) → GoesTo l targets dep bound f end → GoesTo l targets dep bound (record f1 { until = s.delay }) (Some s)
+    goes_to in_bound ends end to = goes_to_end g l starts targets dep bound (IsNoEndAt l targets) f1 s in_bound scanning ends early end (goes_taken end to)
 
-  none_before : (v q : ℕ) (x : Reached) → reached_at f1 v q ≡ Some x → x.settled ≡ true → x.at < s.at → Contains targets v → IsTrue (l.accepts q) → ⊥
-  none_before v q x is settled lt = elim (step.origin g lawful l labels starts targets dep bound f f1 f1 s searching least no_offers v q x is) [
-    | step.fresh n w ↦ absurd (false≢true (sym w ∙ settled))
-    | step.here ev eq e ↦ absurd (omega (arith, ap (λ (y : Reached). y.at) e, least.at))
-    | step.before was ↦ searching.no_end v q x was settled
-  ]
+    -- else its arcs are explored
+    module _ (lawful : IsLawfulGraph g) (labels : IsLawfulLabels l) (f2 : Frontier) (offers : Offers f1 f2 (IsSuccessor g l f1.base s)) where
+      pub explored : IsFrontier f2 → ((i : ℕ) → i < g.arcs s.node → ArcIsReached g l f2 s.node s.state (f2.base + s.delay) i)
+          → IsNoEndAt l targets s.node s.state (dep + s.delay) → IsSearching g l starts dep (IsNoEndAt l targets) f2
+      explored right reached no_end = scanning_on g lawful l labels starts dep (IsNoEndAt l targets) f1 f2 s scanning offers right reached no_end
 
-  pub searched_to : IsSearched g l starts targets dep bound (Some s.at) f1
-  searched_to = record {
-    right = right;
-    depth = step.depth g lawful l labels starts targets dep bound f f1 f1 s searching least no_offers;
-    traced = step.traced g lawful l labels starts targets dep bound f f1 f1 s searching least no_offers;
-    shallow = λ v q x is. omega (arith, step.shallow g lawful l labels starts targets dep bound f f1 f1 s searching least no_offers v q x is, few_states g lawful l labels);
-    bounded = λ v q x is. not_above g lawful l labels dep x.at (unsettled g l f1) (step.bounded g lawful l labels starts targets dep bound f f1 f1 s searching least no_offers v q x is);
-    within = step.within g lawful l labels starts targets dep bound f f1 f1 s searching least no_offers;
-    complete = complete_before;
-    no_end = none_before;
-  }
-
-  pub ended : Contains targets s.node → IsTrue (l.accepts s.state) → IsEnd l targets f1 s
-  ended target accepts = record {
-    entry = record (least.entry) { settled = true };
-    known = step.here_now f f1 s least;
-    at = least.at;
-    link = least.link;
-    target = target;
-    accepts = accepts;
-  }
-
-module _ (g : GraphMeaning) (lawful : IsLawfulGraph g) (l : LabelsMeaning) (labels : IsLawfulLabels l) (starts targets : List ℕ) (dep : ℕ) (bound : Option ℕ)
-    (f f1 : Frontier) (searching : IsSearching g l starts targets dep bound f) (right : IsQueueRight f1) (none : NobodyWaits f) (same : SameReached f f1) (numbers : KeepsNumbers f f1) where
-  pub searched_all : IsSearched g l starts targets dep bound None f1
-  searched_all = record {
-    right = right;
-    depth = searching.depth;
-    traced = λ v q x is. step.keeps_traced g l starts dep searching.depth searching.depth f f1 (λ w r y was settled. (same w r ∙ was, refl)) numbers v q x x.parent refl (searching.traced v q x (sym (same v q) ∙ is));
-    shallow = λ v q x is. omega (arith, searching.shallow v q x (sym (same v q) ∙ is), few_states g lawful l labels);
-    bounded = λ v q x is. not_above g lawful l labels dep x.at (unsettled g l f) (searching.bounded v q x (sym (same v q) ∙ is));
-    within = λ v q x is. searching.within v q x (sym (same v q) ∙ is);
-    complete = λ v q t reached within.
-        (let known = complete g lawful l starts targets dep bound f searching t within (λ w r u le waits. false≢true (sym (none w r u) ∙ waits)) v q reached in
-        (known.0, same v q ∙ known.1, known.2, known.3));
-    no_end = λ v q x is settled listed. searching.no_end v q x (sym (same v q) ∙ is) settled;
-  }
+      pub goes_explored : (end : Option Scan) → GoesTo l targets dep bound f end → GoesTo l targets dep bound f2 end
+      goes_explored end to = goes_on l targets dep bound f1 f2 offers.base offers.until offers.kept offers.stay end (goes_taken end to)
 
 -- ---- the arrival
 
-module _ (g : GraphMeaning) (l : LabelsMeaning) (starts targets : List ℕ) (dep : ℕ) (bound : Option ℕ) (f : Frontier) where
-  -- no walk arrives at a time that is to be listed
-  pub none_listed : (arrival : Option ℕ) → IsSearched g l starts targets dep bound arrival f → (t : ℕ) → ArrivesAt g l starts targets dep t
-      → ((u : ℕ) → u ≤ t → IsToList bound arrival u) → ⊥
-  none_listed arrival searched t arrives listed =
+module _ (g : GraphMeaning) (l : LabelsMeaning) (starts targets : List ℕ) (dep : ℕ) (bound : Option ℕ) (f : Frontier) (searched : IsSearched g l starts dep (IsNoEndAt l targets) f) where
+  -- no walk arrives at a time that is wanted
+  pub none_wanted : (t : ℕ) → ArrivesAt g l starts targets dep t → IsWanted f t → ⊥
+  none_wanted t arrives wanted =
       let word = arrives.word in
       let known = searched.complete arrives.end word.1 t
       (record {
@@ -157,32 +143,44 @@ module _ (g : GraphMeaning) (l : LabelsMeaning) (starts targets : List ℕ) (dep
         is_start = word.3;
         walk = arrives.walk;
         reads = word.4;
-      }) (listed t (omega arith)) in
-      searched.no_end arrives.end word.1 known.0 known.1 known.2 (listed (known.0).at known.3) arrives.ends_there word.5
+      }) wanted in
+      let early = row_wanted f searched.right known.number known.row known.known (wanted_down f (f.base + (known.row).delay) t known.by wanted) in
+      searched.seen known.number known.row known.known early (
+        subst (λ v. Contains targets v) (sym known.node) arrives.ends_there,
+        subst (λ q. IsTrue (l.accepts q)) (sym known.state) word.5,
+      )
 
-  pub arrives : (end : Option Settled) → IsExplored g l starts targets dep bound f end → IsArrival g l starts targets dep bound (end_arrival end)
-  arrives None searched = λ t within arrival. none_listed None searched t arrival (λ u le. within_down bound u t le within)
-  arrives (Some s) (searched, end) =
-      (record { reached = there; least = earliest }, subst (λ t. IsWithin bound t) (sym end.at) (searched.within s.node s.state (end.entry) end.known)) where
-        walk : IsReachedAt g l starts dep s.node s.state s.at
-        walk = subst (λ t. IsReachedAt g l starts dep s.node s.state t) (sym end.at) (tight g l starts dep searched.depth f searched.traced s.node s.state (end.entry) end.known)
+  of_way : (s : Scan) → IsOfWay f s → IsReachedAt g l starts dep s.node s.state (f.base + s.delay)
+  of_way s of = rw (sym searched.base, of.node, of.state, of.delay) (way_reached g l starts f searched.traced of.number of.way of.row of.known of.leads)
 
-        there : ArrivesAt g l starts targets dep s.at
+  pub arrives : (end : Option Scan) → GoesTo l targets dep bound f end → IsArrival g l starts targets dep bound (end_arrival f end)
+  arrives None to = λ t within arrival. none_wanted t arrival (listed_wanted dep bound None f searched.base to t within)
+  arrives (Some s) to =
+      (record { reached = there; least = earliest }, to.within) where
+        walk : IsReachedAt g l starts dep s.node s.state (f.base + s.delay)
+        walk = of_way s to.is
+
+        there : ArrivesAt g l starts targets dep (f.base + s.delay)
         there = record {
           start = walk.start;
           end = s.node;
           steps = walk.steps;
           starts_there = walk.starts_there;
-          ends_there = end.target;
+          ends_there = (to.ends).0;
           walk = walk.walk;
-          word = (walk.first, s.state, walk.is_state, walk.is_start, walk.reads, end.accepts);
+          word = (walk.first, s.state, walk.is_state, walk.is_start, walk.reads, (to.ends).1);
         }
 
-        earliest : (t : ℕ) → ArrivesAt g l starts targets dep t → s.at ≤ t
-        earliest t arrival = elim (cases_lt t s.at) [
-          | inl lt ↦ absurd (none_listed (Some s.at) searched t arrival (λ u le. omega arith))
+        earliest : (t : ℕ) → ArrivesAt g l starts targets dep t → f.base + s.delay ≤ t
+        earliest t arrival = elim (cases_lt t (f.base + s.delay)) [
+          | inl lt ↦ absurd (none_wanted t arrival (inr (omega (arith, lt, to.last))))
           | inr ge ↦ ge
         ]
+
+pub ends_with : (l : LabelsMeaning) (targets : List ℕ) (dep : ℕ) (bound : Option ℕ) (f : Frontier) (end : Option Scan) → GoesTo l targets dep bound f end
+    → EndsWith dep bound f (end_arrival f end)
+ends_with l targets dep bound f None to = to
+ends_with l targets dep bound f (Some s) to = (ap (λ d. f.base + d) (sym to.last), omega (arith, to.last, to.soon))
 
 -- ---- ends
 
@@ -191,23 +189,9 @@ contained targets ends v made = subst (λ b. Decides b (Contains targets v)) (sy
   same : (a b : ℕ) → Decides (eq_by_cmp nat_cmp a b) (a ≡ b)
   same a b = subst (λ t. Decides t (a ≡ b)) (unsigned_ties a b) (Decides-eqb a b)
 
-pub end_parts : (targets : List ℕ) (ends : BTreeSet ℕ) (v : ℕ) (accepts : Bool) → sorted.IsFromIterResult nat_cmp targets ends
-    → true ≡ (accepts && sorted.contains nat_cmp ends v) → Contains targets v × IsTrue accepts
-end_parts targets ends v accepts made e = let p = and_parts accepts (sorted.contains nat_cmp ends v) (sym e) in ((contained targets ends v made).0 p.1, p.0)
+module _ (l : LabelsMeaning) (targets : List ℕ) (ends : BTreeSet ℕ) (v q : ℕ) (made : sorted.IsFromIterResult nat_cmp targets ends) where
+  pub is_end : true ≡ (l.accepts q && sorted.contains nat_cmp ends v) → IsEndAt l targets v q
+  is_end e = let p = and_parts (l.accepts q) (sorted.contains nat_cmp ends v) (sym e) in ((contained targets ends v made).0 p.1, p.0)
 
-pub no_end : (targets : List ℕ) (ends : BTreeSet ℕ) (v : ℕ) (accepts : Bool) → sorted.IsFromIterResult nat_cmp targets ends
-    → false ≡ (accepts && sorted.contains nat_cmp ends v) → Contains targets v → IsTrue accepts → ⊥
-no_end targets ends v accepts made e target is = false≢true (e ∙ and_from accepts (sorted.contains nat_cmp ends v) is ((contained targets ends v made).1 target))
-
--- what is settled is no later than the least of those that wait
-pub settled_by : (g : GraphMeaning) (l : LabelsMeaning) (starts targets : List ℕ) (dep : ℕ) (bound : Option ℕ) (f f1 : Frontier) (s : Settled)
-    → IsSearching g l starts targets dep bound f → SettlesLeast f f1 s → IsSettledBy f1 s.at
-settled_by g l starts targets dep bound f f1 s searching least w r x is settled = go (is_same s.node s.state w r) refl where
-  go : (b : Bool) → is_same s.node s.state w r ≡ b → x.at ≤ s.at
-  go false other = searching.in_order w r s.node s.state s.at x (sym (step.others_now f f1 s least w r other) ∙ is) settled (step.waited_then f f1 s least)
-  go true e =
-      let p = same_parts s.node s.state w r e in
-      let h : Some (record (least.entry) { settled = true }) ≡ Some x =
-      sym (step.here_now f f1 s least) ∙ ap (λ v. reached_at f1 v s.state) p.0 ∙ ap (λ q. reached_at f1 w q) p.1 ∙ is in
-      let same : record (least.entry) { settled = true } ≡ x = cc in
-      omega (arith, ap (λ (y : Reached). y.at) same, least.at)
+  pub is_no_end : (t : ℕ) → false ≡ (l.accepts q && sorted.contains nat_cmp ends v) → IsNoEndAt l targets v q t
+  is_no_end t e (target, is) = false≢true (e ∙ and_from (l.accepts q) (sorted.contains nat_cmp ends v) is ((contained targets ends v made).1 target))

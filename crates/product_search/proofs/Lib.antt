@@ -1,11 +1,8 @@
 pub mod HopLemmas
 pub mod LabelLemmas
-mod SiftLemmas
-mod HeapLemmas
-mod RowLemmas
 mod QueueLemmas
+mod FrontierLemmas
 mod OfferLemmas
-mod SumLemmas
 mod GivenLemmas
 mod LegLemmas
 mod TakenLemmas

@@ -1,56 +1,79 @@
 -- A search has more labels than a limit exactly where the list of its labels is longer.
-use Rattle.std.proofs.Common.{◌≡◌, ℕ, ◌<◌, List, length, Some, None, inl, inr, subst, arith, filter_map}
-use Rattle.std.specs.Prelude.{Option, All, ◌↔◌}
+use Rattle.std.proofs.Common.{ℕ, ◌+◌, ◌<◌, ◌≤◌, List, length, Some, None, inl, inr, sym, subst, arith, filter_map}
+use Rattle.std.specs.Prelude.{Option, All, ◌↔◌, IsTrue, Contains}
 use Rattle.std.proofs.lemmas.Bool.{cases_lt}
 use Rattle.std.proofs.lemmas.List.Elements.{All-contains}
 use Rattle.std.proofs.lemmas.List.Sorted.{length_permutation}
-use Rattle.search_laws.specs.GraphLaws.{GraphMeaning}
+use Rattle.search_laws.specs.GraphLaws.{GraphMeaning, IsLawfulGraph}
 use Rattle.search_laws.specs.LabelLaws.{LabelsMeaning}
 use Rattle.search_laws.specs.Walks.{ArrivesAt}
 use Rattle.product_search.specs.declared.label.Label.{Label}
+use Rattle.product_search.specs.declared.frontier.Scan.{Scan}
 use Rattle.product_search.specs.declared.frontier.Frontier.{Frontier}
-use Rattle.product_search.specs.Reach.{IsLeastAt, IsWithin, IsToList}
+use Rattle.product_search.specs.Reach.{IsReachedAt, IsWithin, IsToList}
 use Rattle.product_search.specs.Listed.{AreLeastLabels}
 use Rattle.product_search.specs.Answer.{IsArrival}
 use Rattle.product_search.specs.Limits.{IsLabel, HasMoreLabels, StopsAreDue}
-use Rattle.product_search.specs.inside.Waiting.{rows}
-use Rattle.product_search.specs.inside.Searching.{IsSearched, HasMoreSettled, label_of_row}
-use Rattle.product_search.proofs.EndLemmas.{none_listed}
+use Rattle.product_search.specs.inside.Waiting.{rows, IsReachedBy}
+use Rattle.product_search.specs.inside.Searching.{IsSearching, IsNoEndAt, GoesTo, HasMoreBefore, label_of_row}
 use Rattle.product_search.proofs.LabelLemmas.{SubList, no_longer}
-use Rattle.product_search.proofs.ListLemmas.{least_labels}
-use Rattle.product_search.proofs.ReachLemmas.{tight, within_down}
+use Rattle.product_search.proofs.EndLemmas.{goes_within}
+use Rattle.product_search.proofs.ListLemmas.{all_ascending, all_least, within_down}
+use Rattle.product_search.proofs.ReachLemmas.{IsDoneAt, complete}
 use Rattle.product_search.proofs.SortLemmas.{sorted, sorted_moves, sorted_in_order}
 
--- ---- what is settled before a time, by which no end is
+-- ---- what is reached before a delay that nobody waits for, nor for one before it
 
-module _ (g : GraphMeaning) (l : LabelsMeaning) (starts targets : List ℕ) (dep : ℕ) (bound : Option ℕ) (until : ℕ) (f : Frontier)
-    (searched : IsSearched g l starts targets dep bound (Some until) f) where
-  settled_within : (v q t : ℕ) → IsLeastAt g l starts dep v q t → t < until → IsWithin bound t
-  settled_within v q t least lt =
-      let y = searched.complete v q t least.reached lt in
-      let back = least.least (y.0).at (tight g l starts dep searched.depth f searched.traced v q y.0 y.1) in
-      let at : (y.0).at ≡ t = omega (arith, back, y.3) in
-      subst (IsWithin bound) at (searched.within v q y.0 y.1)
+module _ (g : GraphMeaning) (lawful : IsLawfulGraph g) (l : LabelsMeaning) (starts targets : List ℕ) (dep : ℕ) (bound : Option ℕ) (within : IsWithin bound dep)
+    (f : Frontier) (searching : IsSearching g l starts dep (IsNoEndAt l targets) f) (end : Option Scan) (goes : GoesTo l targets dep bound f end)
+    (most : ℕ) (more : HasMoreBefore f most) where
+  done_before : (v q t : ℕ) → IsReachedAt g l starts dep v q t → t < f.base + more.until → (b : ℕ) × (b ≤ t) × IsDoneAt g l (IsNoEndAt l targets) f v q b
+  done_before v q t reached lt = complete g lawful l starts dep (IsNoEndAt l targets) f searching t (inr (omega (arith, lt, more.wanted)))
+      (λ k r known le waits. (let late = more.none k r known waits in omega (arith, lt, le, late))) v q reached
 
-  settled_before : (t a : ℕ) → t < until → ArrivesAt g l starts targets dep a → t < a
-  settled_before t a lt arrives = elim (cases_lt t a) [
+  known_before : (v q t : ℕ) → IsReachedAt g l starts dep v q t → t < f.base + more.until → IsReachedBy f v q t
+  known_before v q t reached lt = (let is = done_before v q t reached lt in record {
+    number = (is.2).number;
+    row = (is.2).row;
+    known = (is.2).known;
+    node = (is.2).node;
+    state = (is.2).state;
+    by = omega (arith, is.1, (is.2).at);
+  })
+
+  -- no walk arrives by then
+  before_ends : (t a : ℕ) → t < f.base + more.until → ArrivesAt g l starts targets dep a → t < a
+  before_ends t a lt arrives = elim (cases_lt t a) [
     | inl before ↦ before
-    | inr after ↦ absurd (none_listed g l starts targets dep bound f (Some until) searched a arrives (λ u le. omega arith))
+    | inr after ↦ (let word = arrives.word in
+        let is = done_before arrives.end word.1 a (record {
+          start = arrives.start;
+          first = word.0;
+          steps = arrives.steps;
+          starts_there = arrives.starts_there;
+          is_state = word.2;
+          is_start = word.3;
+          walk = arrives.walk;
+          reads = word.4;
+        }) (omega (arith, lt, after)) in
+        absurd (((is.2).done).seen (subst (Contains targets) (sym (is.2).node) arrives.ends_there, subst (λ q. IsTrue (l.accepts q)) (sym (is.2).state) word.5)))
   ]
 
-  pub more_settled : (most : ℕ) → HasMoreSettled f until most → HasMoreLabels g l starts targets dep bound most
-  more_settled most more =
-      let found = filter_map (label_of_row (Some until)) (rows f) in
-      let are = least_labels g l starts targets dep bound (Some until) f searched (sorted found) (sorted_in_order found) (sorted_moves found) in
+  pub more_before : HasMoreLabels g l starts targets dep bound most
+  more_before =
+      let found = filter_map (label_of_row f.base more.until) (rows f) in
+      let least = all_least g l starts dep f searching.right searching.base searching.traced more.until known_before
+      (sorted found) (sorted_in_order found) (sorted_moves found) in
       record {
         some = sorted found;
-        ascending = are.ascending;
-        are = λ k d lt. (let is = are.least k d lt in record {
+        ascending = all_ascending g l starts dep f searching.right searching.base searching.traced more.until known_before
+            (sorted found) (sorted_in_order found) (sorted_moves found);
+        are = λ k d lt. (let is = least k d lt in record {
           least = is.0;
-          within = settled_within _ _ _ is.0 is.1;
-          before = λ a arrives. settled_before _ a is.1 arrives;
+          within = goes_within l targets dep bound f searching.base within end goes _ (omega (arith, is.1, more.wanted));
+          before = λ a arrives. before_ends _ a is.1 arrives;
         });
-        more = omega (arith, more, length_permutation found (sorted found) (sorted_moves found));
+        more = omega (arith, more.more, length_permutation found (sorted found) (sorted_moves found));
       }
 
 -- ---- the labels of an answer
@@ -71,8 +94,8 @@ module _ (g : GraphMeaning) (l : LabelsMeaning) (starts targets : List ℕ) (dep
   ]
   before_to_list (Some b) t a first listed arrives = (let le = first.0.least a arrives in omega arith)
 
-  module _ (arrival : Option ℕ) (first : IsArrival g l starts targets dep bound arrival) (labels : List Label) (least : AreLeastLabels g l starts dep bound arrival labels)
-      (most : ℕ) where
+  module _ (arrival : Option ℕ) (first : IsArrival g l starts targets dep bound arrival)
+      (labels : List Label) (least : AreLeastLabels g l starts dep bound arrival labels) (most : ℕ) where
     each_listed : (some : List Label) → All (IsLabel g l starts targets dep bound) some → SubList some labels
     each_listed some are x has =
         let is = All-contains (IsLabel g l starts targets dep bound) some x are has in
@@ -93,7 +116,7 @@ module _ (g : GraphMeaning) (l : LabelsMeaning) (starts targets : List ℕ) (dep
       more = more;
     }
 
-    pub exactly : HasMoreLabels g l starts targets dep bound most ↔ (most < length labels)
+    exactly : HasMoreLabels g l starts targets dep bound most ↔ (most < length labels)
     exactly = (longer, more_listed)
 
 pub stops_are_due : StopsAreDue

@@ -1,35 +1,29 @@
--- The list of what is settled has exactly the least labels, in order.
-use Rattle.std.proofs.Common.{◌≡◌, ℕ, zero, suc, ◌<◌, ◌≤◌, length, map, Bool, true, false, ◌&&◌, cond, List, [], ◌∷◌, Less, get_or, Some, None, inl, inr, refl, sym, ◌∙◌, ap, subst, arith}
-use Rattle.std.specs.Prelude.{Option, All, Contains, filter_map, IsSorted, IsPermutation, ◌==◌}
+-- The list of what is reached before a delay has exactly the least labels, in order.
+use Rattle.std.proofs.Common.{◌≡◌, ℕ, zero, suc, ◌+◌, ◌-◌, ◌^◌, ◌<◌, ◌≤◌, ◌⊎◌, Bool, true, false, ◌&&◌, cond, nat_lt, List, [], ◌∷◌, Less, get_or, Some, None, inl, inr, refl, sym, ◌∙◌, ap, subst, arith}
+use Rattle.std.specs.Prelude.{Option, All, Contains, filter_map, IsSorted, IsPermutation, slice_get, ◌==◌}
 use Rattle.std.specs.List.{AllByRecursion, IsDistinct, cons_option}
 use Rattle.std.specs.Ordering.{is_lt, nat_cmp, ordering_then}
 use Rattle.std.specs.Cmp.{IsTotalOrder}
-use Rattle.std.specs.Map.{keys_of, lookup}
-use Rattle.std.proofs.lemmas.Bool.{lt-ltb, ltb-true, and_from, and_parts, cases_lt}
-use Rattle.std.proofs.lemmas.List.{length-map}
-use Rattle.std.proofs.lemmas.Option.{slice_get-get_or}
-use Rattle.std.proofs.lemmas.List.Elements.{All-nil, All-cons, All-head, All-tail, Contains-append_right}
+use Rattle.std.proofs.lemmas.Bool.{lt-ltb, le-ltb, ltb-true, and_parts, eqb-true, cases_lt}
 use Rattle.std.proofs.lemmas.Bool.Decides.{nat_tests}
-use Rattle.std.proofs.lemmas.Cmp.{then_total, on_total, nat_cmp_total}
-use Rattle.std.proofs.lemmas.List.Elements.{recursion_from_All}
+use Rattle.std.proofs.lemmas.Option.{slice_get-get_or}
+use Rattle.std.proofs.lemmas.List.Elements.{All-nil, All-cons, All-head, All-tail, All-contains, Contains-append_right, recursion_from_All}
 use Rattle.std.proofs.lemmas.List.Sorted.{sorted_far, ranks_by, All-permutation, Contains-permutation}
-use Rattle.std.proofs.lemmas.Map.Keys.{IsDistinct-head, IsDistinct-tail, IsDistinct-cons, IsDistinct-IsPermutation, apart_from_distinct}
+use Rattle.std.proofs.lemmas.Cmp.{then_total, on_total, nat_cmp_total}
+use Rattle.std.proofs.lemmas.Map.Keys.{IsDistinct-cons, IsDistinct-IsPermutation, apart_from_distinct}
 use Rattle.search_laws.specs.GraphLaws.{GraphMeaning}
 use Rattle.search_laws.specs.LabelLaws.{LabelsMeaning}
 use Rattle.product_search.specs.declared.label.Label.{Label}
-use Rattle.product_search.specs.declared.row.Reached.{Reached}
+use Rattle.product_search.specs.declared.label.Best.{Best}
 use Rattle.product_search.specs.declared.frontier.Frontier.{Frontier}
 use Rattle.product_search.specs.declared.row.Row.{Row}
-use Rattle.product_search.specs.Reach.{IsReachedAt, IsLeastAt, IsWithin, IsToList, is_before}
+use Rattle.product_search.specs.Reach.{IsReachedAt, IsLeastAt, IsWithin, IsToList}
 use Rattle.product_search.specs.Listed.{label_of, label_order, IsBelow, AreAscendingLabels, AreLeastLabels}
 use Rattle.product_search.specs.Answer.{last_time}
 use Rattle.product_search.specs.Closed.{IsListedBy}
-use Rattle.product_search.specs.inside.OfRows.{made}
-use Rattle.product_search.specs.inside.Waiting.{state_eq, keyed, rows, keyed_rows, reached_in, reached_at, IsApart}
-use Rattle.product_search.specs.inside.Searching.{IsSearched, listed_label, label_of_row}
-use Rattle.product_search.proofs.QueueLemmas.{same_parts, found_in, keys_differ}
-use Rattle.product_search.proofs.ReachLemmas.{tight, within_down}
-use Rattle.product_search.proofs.TrailLemmas.{same_entry}
+use Rattle.product_search.specs.inside.Waiting.{rows, IsAt, IsApart, IsFrontier, IsReachedBy, IsWanted}
+use Rattle.product_search.specs.inside.Searching.{AreTraced, EndsWith, IsAnswered, label_of_row, until_of}
+use Rattle.product_search.proofs.ReachLemmas.{row_reached, row_wanted, wanted_down}
 
 -- ---- what `filter_map` gives
 
@@ -51,50 +45,55 @@ contains_more : {Y : Type 0} (o : Option Y) (ys : List Y) (y : Y) → Contains y
 contains_more None ys y has = has
 contains_more (Some x) ys y has = Contains-append_right (x ∷ []) ys y has
 
--- what a look-up finds is in the list, if h keeps it
-lookup_listed : {K V Y : Type 0} (h : K × V → Option Y) (test : K → Bool) (es : List (K × V)) (v : V) → lookup test es ≡ Some v
-    → (k : K) × (test k ≡ true) × ((y : Y) → h (k, v) ≡ Some y → Contains (filter_map h es) y)
-lookup_listed h test [] v found = cc
-lookup_listed {K} {V} {Y} h test (e ∷ es) v found = go (test e.0) refl (λ later. lookup_listed h test es v later) where
-  Listed : List Y → Type 0
-  Listed ys = (k : K) × (test k ≡ true) × ((y : Y) → h (k, v) ≡ Some y → Contains ys y)
-
-  go : (b : Bool) → test e.0 ≡ b → (lookup test es ≡ Some v → Listed (filter_map h es)) → Listed (cons_option (h e) (filter_map h es))
-  go true is later =
-      let here : Some e.1 ≡ Some v = sym (ap (λ b. cond b (Some e.1) (lookup test es)) is) ∙ found in
-      let same : e.1 ≡ v = cc in
-      (e.0, is, (λ y kept. contains_here (h e) (filter_map h es) y (subst (λ w. h (e.0, w) ≡ Some y) (sym same) kept)))
-  go false is later =
-      let rest = later (sym (ap (λ b. cond b (Some e.1) (lookup test es)) is) ∙ found) in
-      (rest.0, rest.1, (λ y kept. contains_more (h e) (filter_map h es) y (rest.2 y kept)))
-
-by_keys : {K V : Type 0} (P : K → Type 0) (es : List (K × V)) → AllByRecursion P (keys_of es) → All (λ e. P e.0) es
-by_keys {K} {V} P [] all = All-nil (λ (e : K × V). P e.0)
-by_keys {K} {V} P (e ∷ es) (here, rest) = All-cons (λ (e : K × V). P e.0) e es here (by_keys P es rest)
+-- what h gives of an item is in the list
+contains_given : {X Y : Type 0} (h : X → Option Y) (xs : List X) (k : ℕ) (x : X) (y : Y) → slice_get xs k ≡ Some x → h x ≡ Some y → Contains (filter_map h xs) y
+contains_given h [] k x y known is = cc
+contains_given h (z ∷ xs) zero x y known is = (let same : z ≡ x = cc in contains_here (h z) (filter_map h xs) y (ap h same ∙ is))
+contains_given h (z ∷ xs) (suc k) x y known is = contains_more (h z) (filter_map h xs) y (contains_given h xs k x y known is)
 
 -- ---- the labels of rows
 
-label_parts : (arrival : Option ℕ) (e : (ℕ × ℕ) × Reached) (x : Label) → listed_label arrival e ≡ Some x
-    → (x ≡ label_of e.0.0 e.0.1 (e.1).at) × ((e.1).settled ≡ true) × (is_before arrival (e.1).at ≡ true)
-label_parts arrival e x is = go ((e.1).settled && is_before arrival (e.1).at) refl where
-  go : (b : Bool) → ((e.1).settled && is_before arrival (e.1).at) ≡ b → (x ≡ label_of e.0.0 e.0.1 (e.1).at) × ((e.1).settled ≡ true) × (is_before arrival (e.1).at ≡ true)
-  go false not_kept = (let h : None ≡ Some x = sym (ap (λ b. cond b (Some (label_of e.0.0 e.0.1 (e.1).at)) None) not_kept) ∙ is in cc)
-  go true is_kept =
-      let h : Some (label_of e.0.0 e.0.1 (e.1).at) ≡ Some x = sym (ap (λ b. cond b (Some (label_of e.0.0 e.0.1 (e.1).at)) None) is_kept) ∙ is in
-      let same : x ≡ label_of e.0.0 e.0.1 (e.1).at = cc in
-      let p = and_parts (e.1).settled (is_before arrival (e.1).at) is_kept in
-      (same, p.0, p.1)
+-- only what is reached before the delay has a label
+label_parts : (base until : ℕ) (r : Row) (x : Label) → label_of_row base until r ≡ Some x → (x ≡ label_of r.node r.state (base + r.delay)) × (r.delay < until)
+label_parts base until r x is = go (nat_lt r.delay until) refl where
+  label : Label
+  label = label_of r.node r.state (base + r.delay)
+
+  go : (b : Bool) → nat_lt r.delay until ≡ b → (x ≡ label_of r.node r.state (base + r.delay)) × (r.delay < until)
+  go false late = (let h : None ≡ Some x = sym (ap (λ b. cond b (Some (label_of r.node r.state (base + r.delay))) None) late) ∙ is in cc)
+  go true early =
+      let h : Some (label_of r.node r.state (base + r.delay)) ≡ Some x = sym (ap (λ b. cond b (Some (label_of r.node r.state (base + r.delay))) None) early) ∙ is in
+      let same : x ≡ label_of r.node r.state (base + r.delay) = cc in
+      (same, ltb-true r.delay until early)
+
+label_if : (base until : ℕ) (r : Row) → r.delay < until → label_of_row base until r ≡ Some (label_of r.node r.state (base + r.delay))
+label_if base until r early = ap (λ b. cond b (Some (label_of r.node r.state (base + r.delay))) None) (lt-ltb r.delay until early)
 
 -- two labels are of one product state
 same_key : Label → Label → Bool
-same_key x y = state_eq (x.node, x.state) (y.node, y.state)
+same_key x y = (x.node == y.node) && (x.state == y.state)
 
-key_differs : (arrival : Option ℕ) (d e : (ℕ × ℕ) × Reached) (x y : Label) → listed_label arrival d ≡ Some x → listed_label arrival e ≡ Some y → state_eq d.0 e.0 ≡ false → same_key x y ≡ false
+apart_tail : (r : Row) (rs : List Row) → IsApart (r ∷ rs) → IsApart rs
+apart_tail r rs apart v q j k a b = let same = apart v q (suc j) (suc k) (later j a) (later k b) in omega (arith, same) where
+  later : (k : ℕ) → IsAt rs v q k → IsAt (r ∷ rs) v q (suc k)
+  later k at = record { row = at.row; known = at.known; node = at.node; state = at.state }
+
+keys_differ : (r : Row) (rs : List Row) → IsApart (r ∷ rs) → (k : ℕ) (s : Row) → slice_get rs k ≡ Some s → ((r.node == s.node) && (r.state == s.state)) ≡ false
+keys_differ r rs apart k s known = go ((r.node == s.node) && (r.state == s.state)) refl where
+  go : (b : Bool) → ((r.node == s.node) && (r.state == s.state)) ≡ b → b ≡ false
+  go false e = refl
+  go true e =
+      let p = and_parts (r.node == s.node) (r.state == s.state) e in
+      let same = apart r.node r.state 0 (suc k) (record { row = r; known = refl; node = refl; state = refl })
+      (record { row = s; known = known; node = sym (eqb-true r.node s.node p.0); state = sym (eqb-true r.state s.state p.1) }) in
+      absurd (omega (arith, same))
+
+key_differs : (base until : ℕ) (r s : Row) (x y : Label) → label_of_row base until r ≡ Some x → label_of_row base until s ≡ Some y
+    → ((r.node == s.node) && (r.state == s.state)) ≡ false → same_key x y ≡ false
 unfolding same_key
-key_differs arrival d e x y is also differ =
-    let p = label_parts arrival d x is in let r = label_parts arrival e y also in
-    subst (λ (a : Label). state_eq (a.node, a.state) (y.node, y.state) ≡ false) (sym p.0)
-    (subst (λ (b : Label). state_eq d.0 (b.node, b.state) ≡ false) (sym r.0) differ)
+key_differs base until r s x y is also differ =
+    subst (λ (a : Label). ((a.node == y.node) && (a.state == y.state)) ≡ false) (sym (label_parts base until r x is).0)
+    (subst (λ (b : Label). ((r.node == b.node) && (r.state == b.state)) ≡ false) (sym (label_parts base until s y also).0) differ)
 
 distinct_cons_option : (o : Option Label) (ys : List Label) → ((y : Label) → o ≡ Some y → AllByRecursion (λ z. same_key y z ≡ false) ys) → IsDistinct same_key ys
     → IsDistinct same_key (cons_option o ys)
@@ -106,18 +105,19 @@ unfolding IsDistinct
 none_distinct = tt
 
 -- no two labels are of one product state
-distinct : (arrival : Option ℕ) (es : List ((ℕ × ℕ) × Reached)) → IsDistinct state_eq (keys_of es) → IsDistinct same_key (filter_map (listed_label arrival) es)
-distinct arrival [] unique = none_distinct
-distinct arrival (e ∷ es) unique =
-    distinct_cons_option (listed_label arrival e) (filter_map (listed_label arrival) es)
-    (λ x is. recursion_from_All (λ z. same_key x z ≡ false) (filter_map (listed_label arrival) es)
-    (filter_map_all (listed_label arrival) (λ y. same_key x y ≡ false) es
-    (λ k d lt. λ y also. key_differs arrival e (get_or es k d) x y is also (by_keys (λ q. state_eq e.0 q ≡ false) es (IsDistinct-head state_eq e.0 (keys_of es) unique) k d lt))))
-    (distinct arrival es (IsDistinct-tail state_eq e.0 (keys_of es) unique))
+distinct : (base until : ℕ) (rs : List Row) → IsApart rs → IsDistinct same_key (filter_map (label_of_row base until) rs)
+distinct base until [] apart = none_distinct
+distinct base until (r ∷ rs) apart =
+    distinct_cons_option (label_of_row base until r) (filter_map (label_of_row base until) rs)
+    (λ x is. recursion_from_All (λ z. same_key x z ≡ false) (filter_map (label_of_row base until) rs)
+    (filter_map_all (label_of_row base until) (λ y. same_key x y ≡ false) rs
+    (λ k d lt y also. key_differs base until r (get_or rs k d) x y is also (keys_differ r rs apart k (get_or rs k d) (slice_get-get_or rs k d lt)))))
+    (distinct base until rs (apart_tail r rs apart))
 
 -- sorted labels of which no two are of one product state ascend
 pub order_total : IsTotalOrder label_order
-order_total = then_total (then_total (on_total (λ (x : Label). x.node) nat_cmp_total) (on_total (λ (x : Label). x.state) nat_cmp_total)) (on_total (λ (x : Label). x.at) nat_cmp_total)
+order_total = then_total (then_total (on_total (λ (x : Label). x.node) nat_cmp_total) (on_total (λ (x : Label). x.state) nat_cmp_total))
+    (on_total (λ (x : Label). x.at) nat_cmp_total)
 
 less_from : (a b c d s t : ℕ) → is_lt (ordering_then (ordering_then (nat_cmp c a) (nat_cmp d b)) (nat_cmp t s)) ≡ false → ((a == c) && (b == d)) ≡ false
     → ordering_then (nat_cmp a c) (nat_cmp b d) ≡ Less
@@ -137,104 +137,120 @@ same_key_flips : (x y : Label) → same_key x y ≡ same_key y x
 unfolding same_key
 same_key_flips x y = grind (arith, nat_tests)
 
--- ---- the times to list
+-- ---- a list of all that is reached before a delay, up to which all is known
 
-listed_from : (bound arrival : Option ℕ) (t : ℕ) → IsWithin bound t → is_before arrival t ≡ true → IsToList bound arrival t
-listed_from bound None t within before = within
-listed_from bound (Some a) t within before = ltb-true t a before
+module _ (g : GraphMeaning) (l : LabelsMeaning) (starts : List ℕ) (dep : ℕ) (f : Frontier) (right : IsFrontier f) (base : f.base ≡ dep)
+    (traced : AreTraced g l starts f) (until : ℕ)
+    (complete : (v q t : ℕ) → IsReachedAt g l starts dep v q t → t < f.base + until → IsReachedBy f v q t)
+    (list : List Label) (sorted : IsSorted label_order list) (listed_all : IsPermutation (filter_map (label_of_row f.base until) (rows f)) list) where
+  pub all_ascending : AreAscendingLabels list
+  all_ascending = ascending list sorted (IsDistinct-IsPermutation same_key same_key_flips (filter_map (label_of_row f.base until) (rows f)) list listed_all
+      (distinct f.base until (rows f) right.apart))
 
-before_from : (bound arrival : Option ℕ) (t : ℕ) → IsToList bound arrival t → is_before arrival t ≡ true
-before_from bound None t listed = refl
-before_from bound (Some a) t listed = lt-ltb t a listed
+  reached : (k : ℕ) (r : Row) → slice_get (rows f) k ≡ Some r → IsReachedAt g l starts dep r.node r.state (f.base + r.delay)
+  reached k r known = subst (λ d. IsReachedAt g l starts d r.node r.state (f.base + r.delay)) base (row_reached g l starts f traced right k r known)
 
-listed_down : (bound arrival : Option ℕ) (s t : ℕ) → s ≤ t → IsToList bound arrival t → IsToList bound arrival s
-listed_down bound None s t le listed = within_down bound s t le listed
-listed_down bound (Some a) s t le listed = omega arith
-
--- ---- the rows
-
-filter_map_keyed : (arrival : Option ℕ) (es : List Row) → filter_map (label_of_row arrival) es ≡ filter_map (listed_label arrival) (map keyed es)
-filter_map_keyed arrival [] = refl
-filter_map_keyed arrival (e ∷ es) = ap (λ ys. cons_option (listed_label arrival (keyed e)) ys) (filter_map_keyed arrival es)
-
-row_at : (es : List Row) → IsApart es → (k : ℕ) (d : (ℕ × ℕ) × Reached) → k < length (map keyed es)
-    → (let e = get_or (map keyed es) k d in reached_in es e.0.0 e.0.1 ≡ Some e.1)
-row_at es apart k d lt =
-    let e = get_or es k (made d.0.0 d.0.1 0 d.1) in
-    let lt_es : k < length es = subst (λ n. k < n) (length-map es keyed) lt in
-    let is : get_or (map keyed es) k d ≡ keyed e = get_or_keyed es k d lt_es in
-    subst (λ (x : (ℕ × ℕ) × Reached). reached_in es x.0.0 x.0.1 ≡ Some x.1) (sym is) (found_in es apart k e (slice_get-get_or es k (made d.0.0 d.0.1 0 d.1) lt_es)) where
-      get_or_keyed : (es : List Row) (k : ℕ) (d : (ℕ × ℕ) × Reached) → k < length es → get_or (map keyed es) k d ≡ keyed (get_or es k (made d.0.0 d.0.1 0 d.1))
-      get_or_keyed [] k d lt = absurd (omega arith)
-      get_or_keyed (e ∷ es) zero d lt = refl
-      get_or_keyed (e ∷ es) (suc k) d lt = get_or_keyed es k d (omega arith)
-
--- ---- the whole list
-
-module _ (g : GraphMeaning) (l : LabelsMeaning) (starts targets : List ℕ) (dep : ℕ) (bound arrival : Option ℕ) (f : Frontier)
-    (searched : IsSearched g l starts targets dep bound arrival f)
-    (list : List Label) (sorted : IsSorted label_order list) (listed_all : IsPermutation (filter_map (label_of_row arrival) (rows f)) list) where
-  same : IsPermutation (filter_map (listed_label arrival) (keyed_rows f)) list
-  same = subst (λ xs. IsPermutation xs list) (filter_map_keyed arrival (rows f)) listed_all
-
-  known_rows : All (λ e. reached_at f e.0.0 e.0.1 ≡ Some e.1) (keyed_rows f)
-  known_rows k d lt = row_at (rows f) searched.right.apart k d lt
-
-  least_at : (v q : ℕ) (x : Reached) → reached_at f v q ≡ Some x → IsToList bound arrival x.at → IsLeastAt g l starts dep v q x.at
-  least_at v q x is listed = record {
-    reached = tight g l starts dep searched.depth f searched.traced v q x is;
-    least = earliest;
-  } where
-    earliest : (u : ℕ) → IsReachedAt g l starts dep v q u → x.at ≤ u
-    earliest u reached = elim (cases_lt u x.at) [
+  -- a row before the delay is at its least time
+  row_least : (k : ℕ) (r : Row) → slice_get (rows f) k ≡ Some r → r.delay < until → IsLeastAt g l starts dep r.node r.state (f.base + r.delay)
+  row_least k r known early = record { reached = reached k r known; least = earliest } where
+    earliest : (u : ℕ) → IsReachedAt g l starts dep r.node r.state u → f.base + r.delay ≤ u
+    earliest u walk = elim (cases_lt u (f.base + r.delay)) [
       | inr ge ↦ ge
-      | inl lt ↦ (let y = searched.complete v q u reached (listed_down bound arrival u x.at (omega arith) listed) in
-          let same = same_entry f v q x y.0 is y.1 in
-          absurd (omega (arith, y.3, ap (λ (z : Reached). z.at) same)))
+      | inl lt ↦ (let y = complete r.node r.state u walk (omega arith) in
+          let same = right.apart r.node r.state y.number k (record { row = y.row; known = y.known; node = y.node; state = y.state })
+          (record { row = r; known = known; node = refl; state = refl }) in
+          let h : Some y.row ≡ Some r = sym y.known ∙ ap (slice_get (rows f)) same ∙ known in
+          let is : y.row ≡ r = cc in
+          absurd (omega (arith, y.by, ap (λ (x : Row). x.delay) is)))
     ]
 
-  label_least : (e : (ℕ × ℕ) × Reached) → reached_at f e.0.0 e.0.1 ≡ Some e.1 → (x : Label) → listed_label arrival e ≡ Some x
-      → IsLeastAt g l starts dep x.node x.state x.at × IsToList bound arrival x.at
-  label_least e is x kept =
-      let p = label_parts arrival e x kept in
-      let listed = listed_from bound arrival (e.1).at (searched.within e.0.0 e.0.1 e.1 is) p.2 in
-      subst (λ (y : Label). IsLeastAt g l starts dep y.node y.state y.at × IsToList bound arrival y.at) (sym p.0)
-      (least_at e.0.0 e.0.1 e.1 is listed, listed)
+  pub all_least : All (λ x. IsLeastAt g l starts dep x.node x.state x.at × (x.at < f.base + until)) list
+  all_least = All-permutation Is (filter_map (label_of_row f.base until) (rows f)) list listed_all (filter_map_all (label_of_row f.base until) Is (rows f) each) where
+    Is : Label → Type 0
+    Is x = IsLeastAt g l starts dep x.node x.state x.at × (x.at < f.base + until)
 
-  all_there : (v q t : ℕ) → IsLeastAt g l starts dep v q t → IsToList bound arrival t → Contains (filter_map (listed_label arrival) (keyed_rows f)) (label_of v q t)
-  all_there v q t least listed =
-      let y = searched.complete v q t least.reached listed in
-      let at : (y.0).at ≡ t = (let back = least.least (y.0).at (tight g l starts dep searched.depth f searched.traced v q y.0 y.1) in omega (arith, back, y.3)) in
-      let found = lookup_listed (listed_label arrival) (state_eq (v, q)) (keyed_rows f) y.0 y.1 in
-      let key = same_parts v q found.0.0 found.0.1 found.1 in
-      let kept : ((y.0).settled && is_before arrival (y.0).at) ≡ true =
-      and_from (y.0).settled (is_before arrival (y.0).at) y.2 (subst (λ s. is_before arrival s ≡ true) (sym at) (before_from bound arrival t listed)) in
-      let there = found.2 (label_of found.0.0 found.0.1 (y.0).at) (ap (λ b. cond b (Some (label_of found.0.0 found.0.1 (y.0).at)) None) kept) in
-      let same : label_of found.0.0 found.0.1 (y.0).at ≡ label_of v q t = ap (λ a. label_of a found.0.1 (y.0).at) (sym key.0) ∙ ap (λ b. label_of v b (y.0).at) (sym key.1) ∙ ap (λ s. label_of v q s) at in
-      subst (λ z. Contains (filter_map (listed_label arrival) (keyed_rows f)) z) same there
+    each : All (λ r. (x : Label) → label_of_row f.base until r ≡ Some x → Is x) (rows f)
+    each k d lt x is =
+        let p = label_parts f.base until (get_or (rows f) k d) x is in
+        subst Is (sym p.0) (row_least k (get_or (rows f) k d) (slice_get-get_or (rows f) k d lt) p.1, omega (arith, p.1))
 
-  pub least_labels : AreLeastLabels g l starts dep bound arrival list
+  row_there : (v q t : ℕ) → (y : IsReachedBy f v q t) → (y.row).delay < until → Contains list (label_of v q (f.base + (y.row).delay))
+  row_there v q t y early = Contains-permutation (filter_map (label_of_row f.base until) (rows f)) list (label_of v q (f.base + (y.row).delay)) listed_all
+      (contains_given (label_of_row f.base until) (rows f) y.number y.row (label_of v q (f.base + (y.row).delay)) y.known
+      (label_if f.base until y.row early ∙ ap (λ w. Some (label_of w (y.row).state (f.base + (y.row).delay))) y.node
+      ∙ ap (λ r. Some (label_of v r (f.base + (y.row).delay))) y.state))
+
+-- ---- the times to list
+
+pub within_down : (bound : Option ℕ) (s t : ℕ) → s ≤ t → IsWithin bound t → IsWithin bound s
+within_down None s t le within = tt
+within_down (Some b) s t le within = omega arith
+
+-- up to the bound, or to the greatest delay
+until_cases : (dep last : ℕ)
+    → ((until_of dep (Some last) ≡ last - dep + 1) × (last - dep + 1 < 2 ^ 64 - 1)) ⊎ ((until_of dep (Some last) ≡ 2 ^ 64 - 1) × (2 ^ 64 - 1 ≤ last - dep + 1))
+until_cases dep last = elim (cases_lt (last - dep) (2 ^ 64 - 2)) [
+  | inl lt ↦ inl (ap (λ b. cond b (last - dep) (2 ^ 64 - 2) + 1) (lt-ltb (last - dep) (2 ^ 64 - 2) lt), omega (arith, lt))
+  | inr ge ↦ inr (ap (λ b. cond b (last - dep) (2 ^ 64 - 2) + 1) (le-ltb (last - dep) (2 ^ 64 - 2) ge), omega (arith, ge))
+]
+
+pub listed_before : (dep : ℕ) (bound arrival : Option ℕ) (f : Frontier) → f.base ≡ dep → IsWithin bound dep → EndsWith dep bound f arrival
+    → (t : ℕ) → t < f.base + f.until → IsToList bound arrival t
+listed_before dep None None f base within ends t lt = tt
+listed_before dep (Some last) None f base within ends t lt = elim (until_cases dep last) [
+  | inl is ↦ omega (arith, is.0)
+  | inr is ↦ omega (arith, is.0, is.1)
+]
+listed_before dep bound (Some a) f base within ends t lt = omega (arith, ends.0)
+
+pub listed_wanted : (dep : ℕ) (bound arrival : Option ℕ) (f : Frontier) → f.base ≡ dep → EndsWith dep bound f arrival → (t : ℕ) → IsToList bound arrival t → IsWanted f t
+listed_wanted dep None None f base ends t listed = inl ends
+listed_wanted dep (Some last) None f base ends t listed = elim (until_cases dep last) [
+  | inl is ↦ inr (omega (arith, is.0))
+  | inr is ↦ inl (ends ∙ is.0)
+]
+listed_wanted dep bound (Some a) f base ends t listed = inr (omega (arith, ends.0))
+
+soon_enough : (dep : ℕ) (bound arrival : Option ℕ) (f : Frontier) → EndsWith dep bound f arrival → f.until < 2 ^ 64
+soon_enough dep None None f ends = omega (arith, ends)
+soon_enough dep (Some last) None f ends = elim (until_cases dep last) [
+  | inl is ↦ omega (arith, is.0, is.1, ends)
+  | inr is ↦ omega (arith, is.0, ends)
+]
+soon_enough dep bound (Some a) f ends = omega (arith, ends.1)
+
+-- ---- the whole list of an answer
+
+module _ (g : GraphMeaning) (l : LabelsMeaning) (starts targets : List ℕ) (dep : ℕ) (bound : Option ℕ) (within : IsWithin bound dep) (f : Frontier) (best : Best)
+    (answered : IsAnswered g l starts targets dep bound f best)
+    (list : List Label) (sorted : IsSorted label_order list) (listed_all : IsPermutation (filter_map (label_of_row f.base f.until) (rows f)) list) where
+  complete : (v q t : ℕ) → IsReachedAt g l starts dep v q t → t < f.base + f.until → IsReachedBy f v q t
+  complete v q t reached lt = (answered.searched).complete v q t reached (inr lt)
+
+  list_least : All (λ x. IsLeastAt g l starts dep x.node x.state x.at × (x.at < f.base + f.until)) list
+  list_least = all_least g l starts dep f (answered.searched).right (answered.searched).base (answered.searched).traced f.until complete list sorted listed_all
+
+  -- all that is reached at a time to list has a label by then
+  pub reached_listed : (v q t : ℕ) → IsReachedAt g l starts dep v q t → IsToList bound best.arrival t → IsListedBy list v q t
+  reached_listed v q t walk listed =
+      let wanted = listed_wanted dep bound best.arrival f (answered.searched).base answered.ends_with t listed in
+      let y = (answered.searched).complete v q t walk wanted in
+      let early = row_wanted f (answered.searched).right y.number y.row y.known (wanted_down f (f.base + (y.row).delay) t y.by wanted) in (
+        f.base + (y.row).delay,
+        y.by,
+        row_there g l starts dep f (answered.searched).right (answered.searched).base (answered.searched).traced f.until complete list sorted listed_all v q t y early,
+      )
+
+  pub least_labels : AreLeastLabels g l starts dep bound best.arrival list
   least_labels = record {
-    ascending = ascending list sorted (IsDistinct-IsPermutation same_key same_key_flips (filter_map (listed_label arrival) (keyed_rows f)) list same
-        (distinct arrival (keyed_rows f) (keys_differ (rows f) searched.right.apart)));
-    least = All-permutation (λ x. IsLeastAt g l starts dep x.node x.state x.at × IsToList bound arrival x.at) (filter_map (listed_label arrival) (keyed_rows f)) list same
-        (filter_map_all (listed_label arrival) (λ x. IsLeastAt g l starts dep x.node x.state x.at × IsToList bound arrival x.at) (keyed_rows f)
-        (λ k d lt. label_least (get_or (keyed_rows f) k d) (known_rows k d lt)));
-    complete = λ v q t least listed. Contains-permutation (filter_map (listed_label arrival) (keyed_rows f)) list (label_of v q t) same (all_there v q t least listed);
+    ascending = all_ascending g l starts dep f (answered.searched).right (answered.searched).base (answered.searched).traced f.until complete list sorted listed_all;
+    least = λ k d lt. (let is = list_least k d lt in (is.0, listed_before dep bound best.arrival f (answered.searched).base within answered.ends_with _ is.1));
+    complete = λ v q t least listed.
+        (let there = reached_listed v q t least.reached listed in
+        let is = All-contains (λ x. IsLeastAt g l starts dep x.node x.state x.at × (x.at < f.base + f.until)) list (label_of v q there.0) list_least there.2 in
+        let same : there.0 ≡ t = omega (arith, there.1, least.least there.0 is.0.reached) in
+        subst (λ s. Contains list (label_of v q s)) same there.2);
   }
 
-  -- all that is reached at a time to list is listed by then
-  pub reached_listed : (v q t : ℕ) → IsReachedAt g l starts dep v q t → IsToList bound arrival t → IsListedBy list v q t
-  reached_listed v q t reached listed =
-      let y = searched.complete v q t reached listed in
-      let by_then = listed_down bound arrival (y.0).at t y.3 listed in
-      ((y.0).at, y.3, least_labels.complete v q (y.0).at (least_at v q y.0 y.1 by_then) by_then)
-
-  label_in_time : (e : (ℕ × ℕ) × Reached) → reached_at f e.0.0 e.0.1 ≡ Some e.1 → (x : Label) → listed_label arrival e ≡ Some x → x.at ≤ last_time dep
-  label_in_time e is x kept = let p = label_parts arrival e x kept in
-      subst (λ (y : Label). y.at ≤ last_time dep) (sym p.0) (searched.bounded e.0.0 e.0.1 e.1 is)
-
   pub labels_in_time : All (λ x. x.at ≤ last_time dep) list
-  labels_in_time = All-permutation (λ x. x.at ≤ last_time dep) (filter_map (listed_label arrival) (keyed_rows f)) list same
-      (filter_map_all (listed_label arrival) (λ x. x.at ≤ last_time dep) (keyed_rows f)
-      (λ k d lt. label_in_time (get_or (keyed_rows f) k d) (known_rows k d lt)))
+  labels_in_time k d lt = omega (arith, (list_least k d lt).1, soon_enough dep bound best.arrival f answered.ends_with, (answered.searched).base)

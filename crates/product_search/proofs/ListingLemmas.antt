@@ -1,9 +1,9 @@
--- A list that is made row by row.
-use Rattle.std.proofs.Common.{◌≡◌, ℕ, ◌+◌, ◌<◌, ◌≤◌, List, [], ◌∷◌, ◌++◌, length, Some, None, refl, ◌∙◌, ap, arith, filter_map}
-use Rattle.std.specs.Prelude.{Option, option_to_list, slice_get, take}
+-- A list that is made item by item.
+use Rattle.std.proofs.Common.{◌≡◌, ℕ, ◌+◌, ◌<◌, ◌≤◌, Bool, true, false, cond, List, [], ◌∷◌, ◌++◌, length, get_or, Some, None, refl, sym, ◌∙◌, ap, subst, arith, filter_map}
+use Rattle.std.specs.Prelude.{Option, option_to_list, take}
 use Rattle.std.proofs.lemmas.List.{length-append, length-take-le, take_all, take_more}
 use Rattle.std.proofs.lemmas.List.Elements.{filter_map-append}
-use Rattle.std.proofs.lemmas.Option.{get_or_from_slice_get}
+use mir.Val.{bool_byte}
 
 module _ {X Y : Type 0} (h : X → Option Y) (xs : List X) where
   -- what one gives
@@ -12,23 +12,33 @@ module _ {X Y : Type 0} (h : X → Option Y) (xs : List X) where
   one_gives x (Some y) is = rw is refl
 
   -- one more
-  pub gives_more : (i : ℕ) (x : X) → i < length xs → slice_get xs i ≡ Some x → filter_map h (take (i + 1) xs) ≡ filter_map h (take i xs) ++ option_to_list (h x)
-  gives_more i x lt is =
-      ap (filter_map h) (take_more xs i x lt ∙ ap (λ y. take i xs ++ y ∷ []) (get_or_from_slice_get xs i x x is))
-      ∙ filter_map-append h (take i xs) (x ∷ []) ∙ ap (λ ys. filter_map h (take i xs) ++ ys) (one_gives x (h x) refl)
+  pub gives_more : (i : ℕ) (d : X) (ys : List X) → ys ≡ xs → i < length ys
+      → filter_map h (take (i + 1) xs) ≡ filter_map h (take i xs) ++ option_to_list (h (get_or ys i d))
+  gives_more i d ys same lt = subst (λ zs. filter_map h (take (i + 1) xs) ≡ filter_map h (take i xs) ++ option_to_list (h (get_or zs i d))) (sym same)
+      (ap (filter_map h) (take_more xs i d (omega (arith, lt, ap length same)))
+      ∙ filter_map-append h (take i xs) (get_or xs i d ∷ []) ∙ ap (λ ys. filter_map h (take i xs) ++ ys) (one_gives (get_or xs i d) (h (get_or xs i d)) refl))
 
   -- all
-  pub gives_all : (i : ℕ) → length xs ≤ i → filter_map h (take i xs) ≡ filter_map h xs
-  gives_all i all = ap (filter_map h) (take_all i xs all)
+  pub gives_all : (i : ℕ) (ys : List X) → ys ≡ xs → length ys ≤ i → filter_map h (take i xs) ≡ filter_map h xs
+  gives_all i ys same all = ap (filter_map h) (take_all i xs (omega (arith, all, ap length same)))
 
   -- counted one by one
-  pub counts_more : (i count : ℕ) (x : X) → i < length xs → slice_get xs i ≡ Some x → count ≡ length (filter_map h (take i xs))
-      → count + length (option_to_list (h x)) ≡ length (filter_map h (take (i + 1) xs))
-  counts_more i count x lt is so_far = omega (arith, so_far, ap length (gives_more i x lt is), length-append (filter_map h (take i xs)) (option_to_list (h x)))
+  pub counts_more : (i : ℕ) (d : X) (ys : List X) → ys ≡ xs → i < length ys
+      → length (filter_map h (take (i + 1) xs)) ≡ length (filter_map h (take i xs)) + length (option_to_list (h (get_or ys i d)))
+  counts_more i d ys same lt = ap length (gives_more i d ys same lt) ∙ length-append (filter_map h (take i xs)) (option_to_list (h (get_or ys i d)))
 
-  pub option_few : (o : Option Y) → length (option_to_list o) ≤ 1
-  option_few None = omega arith
-  option_few (Some y) = omega arith
+-- one where the test holds
+pub one_if : {Y : Type 0} (b : Bool) (y : Y) → bool_byte b ≡ length (option_to_list (cond b (Some y) None))
+one_if true y = refl
+one_if false y = refl
+
+pub one_at_most : (b : Bool) → bool_byte b ≤ 1
+one_at_most true = omega arith
+one_at_most false = omega arith
+
+option_few : {Y : Type 0} (o : Option Y) → length (option_to_list o) ≤ 1
+option_few None = omega arith
+option_few (Some y) = omega arith
 
 -- as many as the list is long, at most
 few_given : {X Y : Type 0} (h : X → Option Y) (xs : List X) → length (filter_map h xs) ≤ length xs
@@ -36,7 +46,7 @@ few_given h [] = omega arith
 few_given h (x ∷ xs) =
     let parts = ap length (filter_map-append h (x ∷ []) xs) ∙ length-append (filter_map h (x ∷ [])) (filter_map h xs) in
     let one = ap length (one_gives h xs x (h x) refl) in
-    omega (arith, parts, one, option_few h xs (h x), few_given h xs)
+    omega (arith, parts, one, option_few (h x), few_given h xs)
 
-pub few_so_far : {X Y : Type 0} (h : X → Option Y) (xs : List X) (i count : ℕ) → i ≤ length xs → count ≡ length (filter_map h (take i xs)) → count ≤ i
-few_so_far h xs i count le is = omega (arith, is, few_given h (take i xs), length-take-le i xs le)
+pub few_so_far : {X Y : Type 0} (h : X → Option Y) (xs ys : List X) → ys ≡ xs → (i : ℕ) → i ≤ length ys → length (filter_map h (take i xs)) ≤ i
+few_so_far h xs ys same i le = omega (arith, few_given h (take i xs), length-take-le i xs (omega (arith, le, ap length same)))

@@ -9,13 +9,9 @@ use Rattle.std.proofs.lemmas.List.{append-nil, get_or_append_left, get_or-set_sa
 use Rattle.std.proofs.lemmas.List.Elements.{All-contains, All-push, Contains-push, Contains-append_left}
 use Rattle.search_laws.specs.Letters.{IsLetter, letter_count}
 use Rattle.search_laws.specs.LabelLaws.{LabelsMeaning, HasMove, AllAfter}
-use Rattle.product_search.specs.declared.frontier.Frontier.{Frontier}
-use Rattle.product_search.specs.declared.row.Reached.{Reached}
 use Rattle.search_laws.specs.declared.labels.Move.{Move}
 use Rattle.product_search.specs.inside.MoveTables.{AreTargets, AreTargetsWith, target_by, targets_below}
 use Rattle.product_search.proofs.LetterLemmas.{bit_from_set, set_from_bit}
-use Rattle.product_search.specs.inside.Exploring.{IsGiven, LeadsTo, Offers}
-use Rattle.product_search.proofs.OfferLemmas.{offers_more, offers_weaker}
 
 -- what holds of each element at its place, after one more
 pub each_pushed : {X : Type 0} (P : ℕ → X → Type 0) (xs : List X) (x d : X) → ((k : ℕ) → k < length xs → P k (get_or xs k d)) → P (length xs) x
@@ -156,11 +152,3 @@ module _ (l : LabelsMeaning) (q c : ℕ) where
   -- what holds of each of the states holds of each after the letter
   pub targets_after : (targets : List ℕ) → AreTargets l q c targets → (P : ℕ → Type 0) → All P targets → AllAfter l q (Some c) P
   targets_after targets are P all = λ j lt by. All-contains P targets (l.move_at q j).to all (are.each j lt by)
-
-  -- a way that is offered in one of the states leads there by the letter
-  pub next_offered : (targets : List ℕ) → AreTargets l q c targets → (k d : ℕ) → k < length targets → (to : ℕ) (way : Reached) (old mid new : Frontier)
-      → Offers old mid (LeadsTo l to q (Some c) way) → Offers mid new (IsGiven to (slice_index_or targets k d) way) → Offers old new (LeadsTo l to q (Some c) way)
-  next_offered targets are k d lt to way old mid new first next =
-      offers_more old mid new (LeadsTo l to q (Some c) way) first
-      (offers_weaker mid new (IsGiven to (slice_index_or targets k d) way) (LeadsTo l to q (Some c) way)
-      (λ w r x given. record { node = given.node; state = subst (HasMove l q c) (sym given.state) (are.are k d lt); as_given = given.as_given }) next)

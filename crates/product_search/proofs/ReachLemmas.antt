@@ -1,18 +1,18 @@
--- What is traced is reached by a walk; and where nobody waits, all that walks reach is settled.
-use Rattle.std.proofs.Common.{◌≡◌, ℕ, zero, suc, ◌≤◌, Bool, true, false, not, ◌==◌, List, [], ◌∷◌, ◌++◌, Some, None, refl, sym, ◌∙◌, ap, subst, arith}
-use Rattle.std.specs.Prelude.{Option, option_to_list}
-use Rattle.std.proofs.lemmas.Bool.{and_from, not_from_false, eq-eqb}
+-- What is traced is reached by a walk; and where nobody waits, all that walks reach is known.
+use Rattle.std.proofs.Common.{◌≡◌, ℕ, zero, suc, ◌+◌, ◌<◌, ◌≤◌, inl, inr, List, [], ◌∷◌, ◌++◌, Some, refl, sym, ◌∙◌, ap, subst, arith}
+use Rattle.std.specs.Prelude.{option_to_list, slice_get}
 use Rattle.std.proofs.lemmas.List.{get_or_default}
 use Rattle.search_laws.specs.GraphLaws.{GraphMeaning, HasArc, IsLawfulGraph}
 use Rattle.search_laws.specs.LabelLaws.{LabelsMeaning, Reads, Follows, AllAfter}
 use Rattle.search_laws.specs.Walks.{arc, word_from}
 use Rattle.search_laws.proofs.WalkLemmas.{reads_more, reads_one, walk_more, word_more, walk_rises, walk_known}
-use Rattle.product_search.specs.declared.row.Reached.{Reached}
+use Rattle.product_search.specs.declared.row.Row.{Row}
+use Rattle.product_search.specs.declared.row.Taken.{Taken}
 use Rattle.product_search.specs.declared.frontier.Frontier.{Frontier}
-use Rattle.product_search.specs.Reach.{IsReachedAt, IsWithin}
-use Rattle.product_search.specs.inside.Waiting.{reached_at, waits_at}
-use Rattle.product_search.specs.inside.Exploring.{IsReachedBy}
-use Rattle.product_search.specs.inside.Searching.{IsTraced, IsTracedTo, IsSearching, IsSettledAt}
+use Rattle.product_search.specs.Reach.{IsReachedAt}
+use Rattle.product_search.specs.inside.Waiting.{rows, ways, Waits, IsFrontier, IsReachedBy, IsWanted}
+use Rattle.product_search.specs.inside.Exploring.{ArcIsReached}
+use Rattle.product_search.specs.inside.Searching.{AreTraced, IsTracedTo, IsSearching, IsDone}
 use Rattle.product_search.proofs.OfferLemmas.{all_after_weaker}
 
 -- ---- walks
@@ -33,69 +33,116 @@ reached_more g l starts dep v q t i u r reached has e follows = record {
       (reads_one l (g.arc_at v i).letter q r follows));
 }
 
-traced_reaches : (g : GraphMeaning) (l : LabelsMeaning) (starts : List ℕ) (dep : ℕ) (depth : ℕ → ℕ → ℕ) (f : Frontier) → IsTraced g l starts dep depth f
-    → (n v q : ℕ) (x : Reached) (p : ℕ) → depth v q ≡ n → IsTracedTo g l starts dep depth f v q x p → IsReachedAt g l starts dep v q x.at
-traced_reaches g l starts dep depth f traced n v q x zero count from = record {
-  start = v;
-  first = q;
-  steps = [];
-  starts_there = from.starts_there;
-  is_state = from.is_state;
-  is_start = from.is_start;
-  walk = (refl, from.at);
-  reads = refl;
-}
-traced_reaches g l starts dep depth f traced zero v q x (suc k) count from = absurd (omega (arith, from.deeper))
-traced_reaches g l starts dep depth f traced (suc n) v q x (suc k) count from =
-    let parent = traced_reaches g l starts dep depth f traced n from.from from.in_state from.before (from.before).parent (omega (arith, from.deeper)) (traced from.from from.in_state from.before from.known) in
-    subst (λ w. IsReachedAt g l starts dep w q x.at) (sym from.node)
-    (reached_more g l starts dep from.from from.in_state (from.before).at x.arc x.at q parent from.has from.arrives from.state)
+-- ---- what is traced
 
--- some walk is there at the time that is known
-pub tight : (g : GraphMeaning) (l : LabelsMeaning) (starts : List ℕ) (dep : ℕ) (depth : ℕ → ℕ → ℕ) (f : Frontier) → IsTraced g l starts dep depth f
-    → (v q : ℕ) (x : Reached) → reached_at f v q ≡ Some x → IsReachedAt g l starts dep v q x.at
-tight g l starts dep depth f traced v q x is = traced_reaches g l starts dep depth f traced (depth v q) v q x x.parent refl (traced v q x is)
+module _ (g : GraphMeaning) (l : LabelsMeaning) (starts : List ℕ) (f : Frontier) (traced : AreTraced g l starts f) where
+  -- the walk back ends, as numbers fall: the count is above the number of the way
+  reached_behind : (count n : ℕ) (r : Row) (w : Taken) (p : ℕ) → n < count → IsTracedTo g l starts f n r w p
+      → IsReachedAt g l starts f.base r.node r.state (f.base + w.delay)
+  reached_behind count n r w zero lt from = record {
+    start = r.node;
+    first = r.state;
+    steps = [];
+    starts_there = from.starts_there;
+    is_state = from.is_state;
+    is_start = from.is_start;
+    walk = (refl, omega (arith, from.at));
+    reads = refl;
+  }
+  reached_behind zero n r w (suc k) lt from = absurd (omega arith)
+  reached_behind (suc count) n r w (suc k) lt from =
+      let t = traced k from.way from.known in
+      let same : Some t.0 ≡ Some from.from = sym t.1 ∙ from.leads in
+      let is : t.0 ≡ from.from = cc in
+      let parent : IsReachedAt g l starts f.base (from.from).node (from.from).state (f.base + (from.way).delay) =
+      subst (λ (x : Row). IsReachedAt g l starts f.base x.node x.state (f.base + (from.way).delay)) is
+      (reached_behind count k t.0 from.way (from.way).parent (omega (arith, from.before, lt)) t.2) in
+      subst (λ v. IsReachedAt g l starts f.base v r.state (f.base + w.delay)) (sym from.node)
+      (reached_more g l starts f.base (from.from).node (from.from).state (f.base + (from.way).delay) w.arc (f.base + w.delay) r.state
+      parent from.has from.arrives from.state)
 
--- ---- what is settled
+  -- some walk is where a way leads to at its time
+  pub way_reached : (n : ℕ) (w : Taken) (r : Row) → slice_get (ways f) n ≡ Some w → slice_get (rows f) w.row ≡ Some r
+      → IsReachedAt g l starts f.base r.node r.state (f.base + w.delay)
+  way_reached n w r known leads =
+      let t = traced n w known in
+      let same : Some t.0 ≡ Some r = sym t.1 ∙ leads in
+      let is : t.0 ≡ r = cc in
+      subst (λ (x : Row). IsReachedAt g l starts f.base x.node x.state (f.base + w.delay)) is (reached_behind (suc n) n t.0 w w.parent (omega arith) t.2)
 
-pub within_down : (bound : Option ℕ) (s t : ℕ) → s ≤ t → IsWithin bound t → IsWithin bound s
-within_down None s t le within = tt
-within_down (Some b) s t le within = omega arith
+  -- and so is one where a row is
+  pub row_reached : IsFrontier f → (k : ℕ) (r : Row) → slice_get (rows f) k ≡ Some r → IsReachedAt g l starts f.base r.node r.state (f.base + r.delay)
+  row_reached right k r known =
+      let last = right.last_ways k r known in
+      subst (λ (d : ℕ). IsReachedAt g l starts f.base r.node r.state (f.base + d)) (last.1).delay
+      (way_reached r.way last.0 r (last.1).known (ap (λ j. slice_get (rows f) j) (last.1).row ∙ known))
+
+-- ---- what is done
 
 -- nobody waits for a time up to t
 abbrev pub NoneWaitsBy : Frontier → ℕ → Type 0
-NoneWaitsBy f t = (w r u : ℕ) → u ≤ t → waits_at (reached_at f w r) u ≡ true → ⊥
+NoneWaitsBy f t = (k : ℕ) (r : Row) → slice_get (rows f) k ≡ Some r → f.base + r.delay ≤ t → Waits f k r → ⊥
 
-pub settled_by_now : (f : Frontier) (t w r : ℕ) (x : Reached) → NoneWaitsBy f t → reached_at f w r ≡ Some x → x.at ≤ t → x.settled ≡ true
-settled_by_now f t w r x none is le = go x.settled refl where
-  go : (b : Bool) → x.settled ≡ b → x.settled ≡ true
-  go true e = e
-  go false e = absurd (none w r x.at le (ap (λ o. waits_at o x.at) is ∙ and_from (not x.settled) (x.at == x.at) (not_from_false x.settled e) (eq-eqb x.at x.at refl)))
+-- v and q are reached at t, and their row is done
+pub record IsDoneAt (g : GraphMeaning) (l : LabelsMeaning) (P : ℕ → ℕ → ℕ → Type 0) (f : Frontier) (v q t : ℕ) : Type 0 where
+  pub number : ℕ
+  pub row : Row
+  pub known : slice_get (rows f) number ≡ Some row
+  pub node : row.node ≡ v
+  pub state : row.state ≡ q
+  pub at : f.base + row.delay ≡ t
+  pub done : IsDone g l P f row
 
--- where nobody waits any more by t2, all that a walk reaches by then is settled
-pub complete : (g : GraphMeaning) → IsLawfulGraph g → (l : LabelsMeaning) (starts targets : List ℕ) (dep : ℕ) (bound : Option ℕ) (f : Frontier)
-    → IsSearching g l starts targets dep bound f → (t2 : ℕ) → IsWithin bound t2 → NoneWaitsBy f t2
-    → (v2 r : ℕ) → IsReachedAt g l starts dep v2 r t2 → IsSettledAt f v2 r t2
-complete g lawful l starts targets dep bound f searching t2 within none v2 r reached =
-    let end = walk_known g lawful l t2 Known closed reached.steps reached.start reached.first dep v2 r reached.walk reached.reads
-    ((begin.0).at, begin.2, (begin.0, begin.1, settled_by_now f t2 reached.start reached.first begin.0 none begin.1 (omega (arith, begin.2, leaves)), refl)) in
-    ((end.2).0, (end.2).1, (end.2).2, omega (arith, end.1, (end.2).3)) where
-      Known : ℕ → ℕ → ℕ → Type 0
-      Known v q s = (x : Reached) × (reached_at f v q ≡ Some x) × (x.settled ≡ true) × (x.at ≡ s)
+pub wanted_down : (f : Frontier) (s t : ℕ) → s ≤ t → IsWanted f t → IsWanted f s
+wanted_down f s t le wanted = elim wanted [ inl all ↦ inl all | inr before ↦ inr (omega (arith, before, le)) ]
 
-      leaves : dep ≤ t2
-      leaves = walk_rises g lawful reached.steps reached.start dep v2 t2 reached.walk
+-- what is wanted of a row
+pub row_wanted : (f : Frontier) → IsFrontier f → (k : ℕ) (r : Row) → slice_get (rows f) k ≡ Some r → IsWanted f (f.base + r.delay) → r.delay < f.until
+row_wanted f right k r known wanted = elim wanted [
+  | inl all ↦ omega (arith, all, right.soon k r known)
+  | inr before ↦ omega (arith, before)
+]
 
-      place : ℕ
-      place = (reached.starts_there).0
+-- where nobody waits any more by t2, which is wanted, all that a walk reaches by then is done
+module _ (g : GraphMeaning) (lawful : IsLawfulGraph g) (l : LabelsMeaning) (starts : List ℕ) (dep : ℕ) (P : ℕ → ℕ → ℕ → Type 0) (f : Frontier)
+    (searching : IsSearching g l starts dep P f) (t2 : ℕ) (wanted : IsWanted f t2) (none : NoneWaitsBy f t2) where
+  done_by : (v q t : ℕ) → t ≤ t2 → IsReachedBy f v q t → (b : ℕ) × (b ≤ t) × IsDoneAt g l P f v q b
+  done_by v q t le reached = (
+    f.base + (reached.row).delay,
+    reached.by,
+    record {
+      number = reached.number;
+      row = reached.row;
+      known = reached.known;
+      node = reached.node;
+      state = reached.state;
+      at = refl;
+      done = done_now reached.number reached.row reached.known (omega (arith, reached.by, le));
+    },
+  ) where
+    done_now : (k : ℕ) (x : Row) → slice_get (rows f) k ≡ Some x → f.base + x.delay ≤ t2 → IsDone g l P f x
+    done_now k x known le = elim (searching.open_or_done k x known) [
+      | inl waits ↦ absurd (none k x known le waits)
+      | inr done ↦ done (row_wanted f searching.right k x known (wanted_down f (f.base + x.delay) t2 le wanted))
+    ]
 
-      begin : IsReachedBy f reached.start reached.first dep
-      begin = subst (λ v. IsReachedBy f v reached.first dep) (get_or_default starts place 0 reached.start (reached.starts_there).1 ∙ (reached.starts_there).2)
-          (searching.starts_reached place (reached.starts_there).1 reached.first reached.is_state reached.is_start)
+  closed : (v q s i a : ℕ) → IsDoneAt g l P f v q s → HasArc g v i → g.arrive v i s ≡ Some a → s ≤ t2 → a ≤ t2
+      → AllAfter l q (g.arc_at v i).letter (λ r. (b : ℕ) × (b ≤ a) × IsDoneAt g l P f (g.arc_at v i).to r b)
+  closed v q s i a known has e before by =
+      all_after_weaker l q (g.arc_at v i).letter (λ r. IsReachedBy f (g.arc_at v i).to r a) (λ r. (b : ℕ) × (b ≤ a) × IsDoneAt g l P f (g.arc_at v i).to r b)
+      (λ r reached. done_by (g.arc_at v i).to r a by reached)
+      (arcs a e (wanted_down f a t2 by wanted)) where
+        arcs : ArcIsReached g l f v q s i
+        arcs = subst (λ w. ArcIsReached g l f w q s i) known.node (subst (λ r. ArcIsReached g l f (known.row).node r s i) known.state
+            (subst (λ t. ArcIsReached g l f (known.row).node (known.row).state t i) known.at
+            ((known.done).arcs i (subst (λ w. i < g.arcs w) (sym known.node) has.arc))))
 
-      closed : (v q s i a : ℕ) → Known v q s → HasArc g v i → g.arrive v i s ≡ Some a → s ≤ t2 → a ≤ t2
-          → AllAfter l q (g.arc_at v i).letter (λ r. (b : ℕ) × (b ≤ a) × Known (g.arc_at v i).to r b)
-      closed v q s i a (x, is, settled, at) has e before by =
-          all_after_weaker l q (g.arc_at v i).letter (λ r. IsReachedBy f (g.arc_at v i).to r a) (λ r. (b : ℕ) × (b ≤ a) × Known (g.arc_at v i).to r b)
-          (λ r (y, known, le). (y.at, le, (y, known, settled_by_now f t2 (g.arc_at v i).to r y none known (omega arith), refl)))
-          (searching.closed v q x is settled i has.arc a (subst (λ y. g.arrive v i y ≡ Some a) (sym at) e) (within_down bound a t2 by within))
+  pub complete : (v2 r : ℕ) → IsReachedAt g l starts dep v2 r t2 → (b : ℕ) × (b ≤ t2) × IsDoneAt g l P f v2 r b
+  complete v2 r reached =
+      let leaves : dep ≤ t2 = walk_rises g lawful reached.steps reached.start dep v2 t2 reached.walk in
+      let place : ℕ = (reached.starts_there).0 in
+      let begin : IsReachedBy f reached.start reached.first f.base =
+      subst (λ v. IsReachedBy f v reached.first f.base) (get_or_default starts place 0 reached.start (reached.starts_there).1 ∙ (reached.starts_there).2)
+      (searching.starts_reached place (reached.starts_there).1 reached.first reached.is_state reached.is_start) in
+      walk_known g lawful l t2 (IsDoneAt g l P f) closed reached.steps reached.start reached.first dep v2 r reached.walk reached.reads
+      (done_by reached.start reached.first dep leaves (subst (IsReachedBy f reached.start reached.first) searching.base begin))

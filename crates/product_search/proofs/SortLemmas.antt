@@ -1,11 +1,18 @@
--- Labels can be sorted.
-use Rattle.std.proofs.Common.{◌≡◌, ℕ, ◌+◌, zero, suc, Bool, true, false, cond, List, [], ◌∷◌, get_or, refl, subst, arith}
-use Rattle.std.specs.Prelude.{⊤, IsSorted, IsPermutation}
+-- Labels can be sorted, so those of an answer are as many as the list of them is long.
+use Rattle.std.proofs.Common.{◌≡◌, ℕ, ◌+◌, zero, suc, Bool, true, false, cond, List, [], ◌∷◌, length, filter_map, get_or, refl, sym, subst, arith}
+use Rattle.std.specs.Prelude.{Option, ⊤, IsSorted, IsPermutation}
 use Rattle.std.specs.Ordering.{is_lt}
-use Rattle.std.proofs.lemmas.List.Sorted.{ranks_by, IsPermutation-refl, IsPermutation-cons, IsPermutation-middle, IsPermutation-trans}
+use Rattle.std.proofs.lemmas.List.Sorted.{ranks_by, IsPermutation-refl, IsPermutation-cons, IsPermutation-middle, IsPermutation-trans, length_permutation}
+use Rattle.search_laws.specs.GraphLaws.{GraphMeaning}
+use Rattle.search_laws.specs.LabelLaws.{LabelsMeaning}
 use Rattle.product_search.specs.declared.label.Label.{Label}
-use Rattle.product_search.specs.Listed.{label_order}
-use Rattle.product_search.proofs.ListLemmas.{order_total}
+use Rattle.product_search.specs.declared.label.Best.{Best}
+use Rattle.product_search.specs.declared.frontier.Frontier.{Frontier}
+use Rattle.product_search.specs.Reach.{IsWithin}
+use Rattle.product_search.specs.Listed.{label_order, HasLeastLabels}
+use Rattle.product_search.specs.inside.Waiting.{rows}
+use Rattle.product_search.specs.inside.Searching.{IsAnswered, label_of_row}
+use Rattle.product_search.proofs.ListLemmas.{order_total, least_labels}
 
 abbrev is_less : Label → Label → Bool
 is_less x y = is_lt (label_order x y)
@@ -25,12 +32,14 @@ put_in_moves x [] = IsPermutation-refl (x ∷ [])
 put_in_moves x (y ∷ ys) = by_test (is_less y x) (put_in_moves x ys)
   where
     by_test : (b : Bool) → IsPermutation (x ∷ ys) (put_in x ys) → IsPermutation (x ∷ y ∷ ys) (cond b (y ∷ put_in x ys) (x ∷ y ∷ ys))
-    by_test true rest = IsPermutation-trans (x ∷ y ∷ ys) (y ∷ x ∷ ys) (y ∷ put_in x ys) (IsPermutation-middle (x ∷ []) y ys) (IsPermutation-cons y (x ∷ ys) (put_in x ys) rest)
+    by_test true rest = IsPermutation-trans (x ∷ y ∷ ys) (y ∷ x ∷ ys) (y ∷ put_in x ys) (IsPermutation-middle (x ∷ []) y ys)
+        (IsPermutation-cons y (x ∷ ys) (put_in x ys) rest)
     by_test false rest = IsPermutation-refl (x ∷ y ∷ ys)
 
 pub sorted_moves : (xs : List Label) → IsPermutation xs (sorted xs)
 sorted_moves [] = IsPermutation-refl []
-sorted_moves (x ∷ xs) = IsPermutation-trans (x ∷ xs) (x ∷ sorted xs) (put_in x (sorted xs)) (IsPermutation-cons x xs (sorted xs) (sorted_moves xs)) (put_in_moves x (sorted xs))
+sorted_moves (x ∷ xs) = IsPermutation-trans (x ∷ xs) (x ∷ sorted xs) (put_in x (sorted xs)) (IsPermutation-cons x xs (sorted xs) (sorted_moves xs))
+    (put_in_moves x (sorted xs))
 
 -- ---- in order
 
@@ -78,3 +87,14 @@ put_in_order x (y ∷ ys) order = by_test (is_less y x) refl (put_in_order x ys 
 pub sorted_in_order : (xs : List Label) → IsSorted label_order (sorted xs)
 sorted_in_order [] = λ k d low lt. absurd (omega arith)
 sorted_in_order (x ∷ xs) = put_in_order x (sorted xs) (sorted_in_order xs)
+
+-- ---- the labels of an answer, counted
+
+pub least_counted : (g : GraphMeaning) (l : LabelsMeaning) (starts targets : List ℕ) (dep : ℕ) (bound : Option ℕ) → IsWithin bound dep → (f : Frontier) (best : Best)
+    → IsAnswered g l starts targets dep bound f best → HasLeastLabels g l starts dep bound best.arrival (length (filter_map (label_of_row f.base f.until) (rows f)))
+least_counted g l starts targets dep bound within f best answered =
+    let found = filter_map (label_of_row f.base f.until) (rows f) in (
+      sorted found,
+      least_labels g l starts targets dep bound within f best answered (sorted found) (sorted_in_order found) (sorted_moves found),
+      sym (length_permutation found (sorted found) (sorted_moves found)),
+    )

@@ -1,397 +1,439 @@
--- One turn of the search: the least is settled, is no end, and its arcs are explored.
-use Rattle.std.proofs.Common.{◌≡◌, ℕ, zero, suc, ◌+◌, ◌*◌, ◌^◌, ◌<◌, ◌≤◌, inl, inr, Bool, true, false, not, ◌==◌, List, Some, None, refl, sym, ◌∙◌, ap, subst, arith}
-use Rattle.std.specs.Prelude.{Option, IsTrue, Contains, slice_get}
-use Rattle.std.proofs.lemmas.Bool.{false≢true, and_from, and_parts, not_from_false, not-true, eq-eqb, eqb-true}
+-- One turn of the search: a product state is taken from the queue, and its arcs are explored.
+use Rattle.std.proofs.Common.{◌≡◌, ℕ, zero, suc, ◌+◌, ◌*◌, ◌-◌, ◌^◌, ◌<◌, ◌≤◌, inl, inr, List, [], Some, None, get_or, length, refl, sym, ◌∙◌, ap, subst, arith}
+use Rattle.std.specs.Prelude.{Option, All, Contains, IsTrue, slice_get, slice_index}
+use Rattle.std.proofs.lemmas.Bool.{cases_lt}
+use Rattle.std.proofs.lemmas.Option.{slice_get_within, slice_get-get_or}
+use Rattle.std.proofs.lemmas.List.Elements.{All-contains}
 use Rattle.search_laws.specs.GraphLaws.{GraphMeaning, HasArc, IsLawfulGraph}
 use Rattle.search_laws.specs.LabelLaws.{LabelsMeaning, IsLawfulLabels, Follows}
-use Rattle.product_search.specs.declared.row.Reached.{Reached}
-use Rattle.product_search.specs.declared.frontier.Settled.{Settled}
-use Rattle.product_search.specs.declared.frontier.Frontier.{Frontier}
 use Rattle.product_search.specs.declared.row.Row.{Row}
-use Rattle.product_search.specs.Reach.{IsWithin}
-use Rattle.product_search.specs.inside.Waiting.{rows, reached_at, waits_at, is_same, IsAt, KeepsNumbers, IsQueueRight, SettlesLeast}
-use Rattle.product_search.specs.inside.Exploring.{IsReachedBy, CanHasten, Offers, IsSuccessor, ArcIsReached}
-use Rattle.product_search.specs.inside.Searching.{is_settled, count_unless, unsettled_at, unsettled, IsTracedTo, IsSearching}
-use Rattle.product_search.proofs.QueueLemmas.{same_itself, same_parts, if_same, if_other}
-use Rattle.product_search.proofs.OfferLemmas.{reached_keeps, all_after_weaker}
-use Rattle.product_search.proofs.SumLemmas.{sum_below_same, sum_below_one}
+use Rattle.product_search.specs.declared.row.Reached.{Reached}
+use Rattle.product_search.specs.declared.row.Taken.{Taken}
+use Rattle.product_search.specs.declared.frontier.Scan.{Scan}
+use Rattle.product_search.specs.declared.frontier.Frontier.{Frontier}
+use Rattle.product_search.specs.Reach.{IsReachedAt}
+use Rattle.product_search.specs.inside.Waiting.{rows, ways, IsFrontier, IsLastWay, IsReachedBy, IsWanted, IsSameBut, Takes, TakesNone}
+use Rattle.product_search.specs.inside.Queued.{queue_len}
+use Rattle.product_search.specs.inside.Exploring.{IsNoLater, Offers, IsSuccessor, IsStartAmong, StartIsReached, ArcIsReached, reached_by}
+use Rattle.product_search.specs.inside.Searching.{IsTracedTo, IsTraced, AreTraced, IsDone, IsSearching, IsScanning, IsSearched}
+use Rattle.product_search.proofs.OfferLemmas.{reached_keeps, wanted_same, all_after_weaker}
+use Rattle.product_search.proofs.ReachLemmas.{IsDoneAt, NoneWaitsBy, row_reached, complete}
 
 -- a state after a letter, or after none, is in range
 pub state_in_range : (l : LabelsMeaning) → IsLawfulLabels l → (letter : Option ℕ) (q r : ℕ) → q < l.states → Follows l q letter r → r < l.states
 state_in_range l lawful None q r lt follows = subst (λ x. x < l.states) (sym follows) lt
 state_in_range l lawful (Some c) q r lt (i, m) = subst (λ x. x < l.states) m.to (lawful.to_in_range q i lt m.place)
 
--- ---- the settled one
-
-module _ (f f1 : Frontier) (s : Settled) (least : SettlesLeast f f1 s) where
-  -- it is settled now
-  pub here_now : reached_at f1 s.node s.state ≡ Some (record (least.entry) { settled = true })
-  here_now = if_same s.node s.state s.node s.state (Some (record (least.entry) { settled = true })) (reached_at f s.node s.state) (reached_at f1 s.node s.state)
-      (same_itself s.node s.state) (least.changed s.node s.state)
-
-  -- the others are as before
-  pub others_now : (w r : ℕ) → is_same s.node s.state w r ≡ false → reached_at f1 w r ≡ reached_at f w r
-  others_now w r other = if_other s.node s.state w r (Some (record (least.entry) { settled = true })) (reached_at f w r) (reached_at f1 w r) other (least.changed w r)
-
-  -- what was settled is another one, and stays
-  pub settled_stays : (w r : ℕ) (x : Reached) → reached_at f w r ≡ Some x → x.settled ≡ true → reached_at f1 w r ≡ Some x
-  settled_stays w r x is settled = go (is_same s.node s.state w r) refl where
-    go : (b : Bool) → is_same s.node s.state w r ≡ b → reached_at f1 w r ≡ Some x
-    go false other = others_now w r other ∙ is
-    go true e =
-        let p = same_parts s.node s.state w r e in
-        let h : Some (least.entry) ≡ Some x = sym least.waited ∙ ap (λ v. reached_at f v s.state) p.0 ∙ ap (λ q. reached_at f w q) p.1 ∙ is in
-        let same : least.entry ≡ x = cc in
-        absurd (false≢true (sym least.unsettled ∙ ap (λ (y : Reached). y.settled) same ∙ settled))
-
-  pub reached_stays : (w r u : ℕ) → IsReachedBy f w r u → IsReachedBy f1 w r u
-  reached_stays w r u (x, is, le) = go (is_same s.node s.state w r) refl where
-    go : (b : Bool) → is_same s.node s.state w r ≡ b → IsReachedBy f1 w r u
-    go false other = (x, others_now w r other ∙ is, le)
-    go true e =
-        let p = same_parts s.node s.state w r e in
-        let h : Some (least.entry) ≡ Some x = sym least.waited ∙ ap (λ v. reached_at f v s.state) p.0 ∙ ap (λ q. reached_at f w q) p.1 ∙ is in
-        let same : least.entry ≡ x = cc in (
-          record (least.entry) { settled = true },
-          sym (ap (λ v. reached_at f1 v s.state) p.0 ∙ ap (λ q. reached_at f1 w q) p.1) ∙ here_now,
-          subst (λ (y : Reached). y.at ≤ u) (sym same) le,
-        )
-
-  -- it waited for its time
-  pub waited_then : waits_at (reached_at f s.node s.state) s.at ≡ true
-  waited_then = ap (λ o. waits_at o s.at) least.waited ∙ and_from (not (least.entry).settled) ((least.entry).at == s.at) (not_from_false (least.entry).settled least.unsettled) (eq-eqb (least.entry).at s.at (sym least.at))
-
--- ---- the count of what is not settled
-
-module _ (g : GraphMeaning) (l : LabelsMeaning) (old new : Frontier) where
-  pub unsettled_same : ((v q : ℕ) → is_settled (reached_at old v q) ≡ is_settled (reached_at new v q)) → unsettled g l old ≡ unsettled g l new
-  unsettled_same same = sum_below_same g.nodes (unsettled_at l old) (unsettled_at l new)
-      (λ v lt. sum_below_same l.states (λ q. count_unless (is_settled (reached_at old v q))) (λ q. count_unless (is_settled (reached_at new v q)))
-      (λ q below. ap (λ b. count_unless b) (same v q)))
-
-  pub unsettled_one : (v q : ℕ) → v < g.nodes → q < l.states → is_settled (reached_at old v q) ≡ false → is_settled (reached_at new v q) ≡ true
-      → ((w r : ℕ) → is_same v q w r ≡ false → is_settled (reached_at old w r) ≡ is_settled (reached_at new w r)) → unsettled g l old ≡ unsettled g l new + 1
-  unsettled_one v q in_v in_q before after same = sum_below_one g.nodes (unsettled_at l old) (unsettled_at l new) v in_v
-      (sum_below_one l.states (λ r. count_unless (is_settled (reached_at old v r))) (λ r. count_unless (is_settled (reached_at new v r))) q in_q
-      (let a : count_unless (is_settled (reached_at old v q)) ≡ 1 = ap (λ b. count_unless b) before in
-      let b : count_unless (is_settled (reached_at new v q)) ≡ 0 = ap (λ b. count_unless b) after in omega (arith, a, b))
-      (λ r below other. ap (λ b. count_unless b) (same v r (other_state v q v r (λ e. other (sym e.1))))))
-      (λ w lt other. sum_below_same l.states (λ r. count_unless (is_settled (reached_at old w r))) (λ r. count_unless (is_settled (reached_at new w r)))
-      (λ r below. ap (λ b. count_unless b) (same w r (other_state v q w r (λ e. other (sym e.0)))))) where
-        other_state : (v q w r : ℕ) → ((v ≡ w) × (q ≡ r) → ⊥) → is_same v q w r ≡ false
-        other_state v q w r not_same = go (is_same v q w r) refl where
-          go : (b : Bool) → is_same v q w r ≡ b → is_same v q w r ≡ false
-          go false e = e
-          go true e = absurd (not_same (same_parts v q w r e))
-
 -- ---- what is traced
 
--- what is settled stays at its depth, and so does the way that leads from it
-pub keeps_traced : (g : GraphMeaning) (l : LabelsMeaning) (starts : List ℕ) (dep : ℕ) (was now : ℕ → ℕ → ℕ) (old new : Frontier)
-    → ((w r : ℕ) (x : Reached) → reached_at old w r ≡ Some x → x.settled ≡ true → (reached_at new w r ≡ Some x) × (now w r ≡ was w r))
-    → KeepsNumbers old new
-    → (v q : ℕ) (x : Reached) (p : ℕ) → now v q ≡ was v q → IsTracedTo g l starts dep was old v q x p → IsTracedTo g l starts dep now new v q x p
-keeps_traced g l starts dep was now old new stays numbers v q x zero same from = from
-keeps_traced g l starts dep was now old new stays numbers v q x (suc k) same from = record {
-  from = from.from;
-  in_state = from.in_state;
-  number = numbers from.from from.in_state k from.number;
-  before = from.before;
-  known = (stays from.from from.in_state from.before from.known from.settled).0;
-  settled = from.settled;
-  deeper = same ∙ from.deeper ∙ ap (λ n. n + 1) (sym (stays from.from from.in_state from.before from.known from.settled).1);
-  has = from.has;
-  arrives = from.arrives;
-  node = from.node;
-  state = from.state;
+abbrev pub KeepsRows : Frontier → Frontier → Type 0
+KeepsRows old new = (k : ℕ) (r : Row) → slice_get (rows old) k ≡ Some r → (now : Row) × (slice_get (rows new) k ≡ Some now) × IsNoLater r now
+
+pub keeps_same : (old new : Frontier) → rows new ≡ rows old → KeepsRows old new
+keeps_same old new same k r known = (r, ap (λ rs. slice_get rs k) same ∙ known, record { node = refl; state = refl; delay = omega arith })
+
+module _ (g : GraphMeaning) (l : LabelsMeaning) (starts : List ℕ) (old new : Frontier) (base : new.base ≡ old.base) (kept : KeepsRows old new)
+    (stay : (n : ℕ) (w : Taken) → slice_get (ways old) n ≡ Some w → slice_get (ways new) n ≡ Some w) where
+  behind_keeps : (n : ℕ) (r now : Row) (w : Taken) (p : ℕ) → IsNoLater r now → IsTracedTo g l starts old n r w p → IsTracedTo g l starts new n now w p
+  behind_keeps n r now w zero later from = record {
+    starts_there = subst (λ v. Contains starts v) (sym later.node) from.starts_there;
+    is_state = subst (λ q. q < l.states) (sym later.state) from.is_state;
+    is_start = subst (λ q. IsTrue (l.is_start q)) (sym later.state) from.is_start;
+    at = from.at;
+  }
+  behind_keeps n r now w (suc k) later from =
+      let is = kept (from.way).row from.from from.leads in
+      let at = is.2 in
+      record {
+        before = from.before;
+        way = from.way;
+        known = stay k from.way from.known;
+        from = is.0;
+        leads = is.1;
+        has = subst (λ v. HasArc g v w.arc) (sym at.node) from.has;
+        arrives = rw (at.node, base) from.arrives;
+        node = later.node ∙ from.node ∙ ap (λ v. (g.arc_at v w.arc).to) (sym at.node);
+        state = rw (at.node, at.state, later.state) from.state;
+      }
+
+  traced_keeps : (n : ℕ) (w : Taken) → IsTraced g l starts old n w → IsTraced g l starts new n w
+  traced_keeps n w (r, leads, to) =
+      let is = kept w.row r leads in (is.0, is.1, behind_keeps n r is.0 w w.parent is.2 to)
+
+-- ---- the same rows
+
+pub reached_same : (old new : Frontier) → new.base ≡ old.base → rows new ≡ rows old → (v q t : ℕ) → IsReachedBy old v q t → IsReachedBy new v q t
+reached_same old new base same v q t reached = record {
+  number = reached.number;
+  row = reached.row;
+  known = ap (λ rs. slice_get rs reached.number) same ∙ reached.known;
+  node = reached.node;
+  state = reached.state;
+  by = omega (arith, base, reached.by);
 }
 
--- ---- the depth
+pub wanted_still : (old new : Frontier) → IsSameBut old new → (t : ℕ) → IsWanted new t → IsWanted old t
+wanted_still old new same t is = elim is [ inl all ↦ inl (omega (arith, all, same.until)) | inr lt ↦ inr (omega (arith, lt, same.until, same.base)) ]
 
--- the depth of a row and 1, or n where there is none
-abbrev depth_past : (ℕ → ℕ → ℕ) → Option Row → ℕ → ℕ
-depth_past depth None n = n
-depth_past depth (Some r) n = depth r.node r.state + 1
+-- a row was as it is
+pub row_still : (old new : Frontier) → IsSameBut old new → (k : ℕ) (r : Row) → slice_get (rows new) k ≡ Some r → slice_get (rows old) k ≡ Some r
+row_still old new same k r known = ap (λ rs. slice_get rs k) (sym same.rows) ∙ known
 
--- the depth by a parent's number and 1, or n at a start
-abbrev depth_by : (ℕ → ℕ → ℕ) → Frontier → ℕ → ℕ → ℕ
-depth_by depth f zero n = n
-depth_by depth f (suc k) n = depth_past depth (slice_get (rows f) k) n
+-- a way is as it was
+pub way_still : (old new : Frontier) → IsSameBut old new → (n : ℕ) (w : Taken) → slice_get (ways old) n ≡ Some w → slice_get (ways new) n ≡ Some w
+way_still old new same n w known = ap (λ ws. slice_get ws n) same.ways ∙ known
 
-abbrev parent_of : Option Reached → ℕ
-parent_of None = 0
-parent_of (Some x) = x.parent
+traced_still : (g : GraphMeaning) (l : LabelsMeaning) (starts : List ℕ) (old new : Frontier) → IsSameBut old new → AreTraced g l starts old → AreTraced g l starts new
+traced_still g l starts old new same traced n w known =
+    traced_keeps g l starts old new same.base (keeps_same old new same.rows) (way_still old new same) n w (traced n w (ap (λ ws. slice_get ws n) (sym same.ways) ∙ known))
 
--- the depth once new ways are reached
-abbrev deepened : (ℕ → ℕ → ℕ) → Frontier → ℕ → ℕ → ℕ
-deepened depth f v q = depth_by depth f (parent_of (reached_at f v q)) (depth v q)
+module _ (g : GraphMeaning) (l : LabelsMeaning) (P : ℕ → ℕ → ℕ → Type 0) (old new : Frontier) (base : new.base ≡ old.base) (same : rows new ≡ rows old)
+    (wanted : (t : ℕ) → IsWanted new t → IsWanted old t) where
+  arc_same : (v q t i : ℕ) → ArcIsReached g l old v q t i → ArcIsReached g l new v q t i
+  arc_same v q t i arc u e in_time = all_after_weaker l q (g.arc_at v i).letter (λ r. IsReachedBy old (g.arc_at v i).to r u) (λ r. IsReachedBy new (g.arc_at v i).to r u)
+      (λ r. reached_same old new base same (g.arc_at v i).to r u) (arc u e (wanted u in_time))
 
-depth_past_parent : (depth : ℕ → ℕ → ℕ) (f : Frontier) (v q k n : ℕ) → IsAt (rows f) v q k → depth_by depth f (suc k) n ≡ depth v q + 1
-depth_past_parent depth f v q k n at =
-    ap (λ o. depth_past depth o n) at.known ∙ ap (λ w. depth w (at.row).state + 1) at.node ∙ ap (λ r. depth v r + 1) at.state
+  done_same : (r : Row) → IsDone g l P old r → IsDone g l P new r
+  done_same r done = record {
+    seen = subst (λ b. P r.node r.state (b + r.delay)) (sym base) done.seen;
+    arcs = λ i lt. subst (λ b. ArcIsReached g l new r.node r.state (b + r.delay) i) (sym base) (arc_same r.node r.state (old.base + r.delay) i (done.arcs i lt));
+  }
 
-depth_traced : (g : GraphMeaning) (l : LabelsMeaning) (starts : List ℕ) (dep : ℕ) (depth : ℕ → ℕ → ℕ) (f f2 : Frontier) → KeepsNumbers f f2 → (v q : ℕ) (x : Reached) (p : ℕ)
-    → IsTracedTo g l starts dep depth f v q x p → depth_by depth f2 p (depth v q) ≡ depth v q
-depth_traced g l starts dep depth f f2 numbers v q x zero from = refl
-depth_traced g l starts dep depth f f2 numbers v q x (suc k) from =
-    depth_past_parent depth f2 from.from from.in_state k (depth v q) (numbers from.from from.in_state k from.number) ∙ sym from.deeper
+  starts_same : (node : ℕ) → StartIsReached old l node → StartIsReached new l node
+  starts_same node all q lt start = subst (λ b. IsReachedBy new node q b) (sym base) (reached_same old new base same node q old.base (all q lt start))
 
--- ---- where an entry comes from
+-- ---- one is taken
 
--- x is a new way from s, or s itself, or was there before
-pub data Origin (g : GraphMeaning) (l : LabelsMeaning) (bound : Option ℕ) (f : Frontier) (s : Settled) (entry : Reached) (w r : ℕ) (x : Reached) : Type 0 where
-  fresh : IsSuccessor g l bound s w r x → x.settled ≡ false → Origin g l bound f s entry w r x
-  here : w ≡ s.node → r ≡ s.state → x ≡ record entry { settled = true } → Origin g l bound f s entry w r x
-  before : reached_at f w r ≡ Some x → Origin g l bound f s entry w r x
+module _ (g : GraphMeaning) (l : LabelsMeaning) (starts : List ℕ) (dep : ℕ) where
+  pub takes_scanning : (P : ℕ → ℕ → ℕ → Type 0) (f f1 : Frontier) (s : Scan) → IsSearching g l starts dep P f → Takes f f1 s → IsScanning g l starts dep P f1 s
+  takes_scanning P f f1 s searching takes = record {
+    right = takes.right;
+    base = (takes.same).base ∙ searching.base;
+    in_range = λ k r known. searching.in_range k r (before k r known);
+    traced = traced_still g l starts f f1 takes.same searching.traced;
+    starts_reached = λ k lt. starts_same g l P f f1 (takes.same).base (takes.same).rows wanted (slice_index starts k) (searching.starts_reached k lt);
+    number = takes.number;
+    row = takes.row;
+    known = ap (λ rs. slice_get rs takes.number) (takes.same).rows ∙ takes.known;
+    node = takes.node;
+    state = takes.state;
+    delay = takes.delay;
+    link = takes.link;
+    open_or_done = λ k r known. elim (searching.open_or_done k r (before k r known)) [
+      | inl waits ↦ elim (takes.others k r (before k r known) waits) [
+        | inl is ↦ inl is
+        | inr rest ↦ elim rest [
+          | inl still ↦ inr (inl still)
+          | inr late ↦ inr (inr (λ early. absurd (omega (arith, early, late, (takes.same).until))))
+        ]
+      ]
+      | inr done ↦ inr (inr (λ early. done_same g l P f f1 (takes.same).base (takes.same).rows wanted r (done (omega (arith, early, (takes.same).until)))))
+    ];
+  } where
+    before : (k : ℕ) (r : Row) → slice_get (rows f1) k ≡ Some r → slice_get (rows f) k ≡ Some r
+    before = row_still f f1 takes.same
 
-module _ (g : GraphMeaning) (lawful : IsLawfulGraph g) (l : LabelsMeaning) (labels : IsLawfulLabels l) (starts targets : List ℕ) (dep : ℕ) (bound : Option ℕ)
-    (f f1 f2 : Frontier) (s : Settled) (searching : IsSearching g l starts targets dep bound f) (least : SettlesLeast f f1 s)
-    (offers : Offers f1 f2 (IsSuccessor g l bound s)) where
-  origin_in_f1 : (w r : ℕ) (x : Reached) → reached_at f1 w r ≡ Some x → Origin g l bound f s (least.entry) w r x
-  origin_in_f1 w r x is = go (is_same s.node s.state w r) refl where
-    go : (b : Bool) → is_same s.node s.state w r ≡ b → Origin g l bound f s (least.entry) w r x
-    go false other = before (sym (others_now f f1 s least w r other) ∙ is)
-    go true e =
-        let p = same_parts s.node s.state w r e in
-        let h : Some (record (least.entry) { settled = true }) ≡ Some x =
-        sym (here_now f f1 s least) ∙ ap (λ v. reached_at f1 v s.state) p.0 ∙ ap (λ q. reached_at f1 w q) p.1 ∙ is in
-        let same : record (least.entry) { settled = true } ≡ x = cc in
-        here (sym p.0) (sym p.1) (sym same)
+    wanted : (t : ℕ) → IsWanted f1 t → IsWanted f t
+    wanted = wanted_still f f1 takes.same
 
-  pub origin : (w r : ℕ) (x : Reached) → reached_at f2 w r ≡ Some x → Origin g l bound f s (least.entry) w r x
-  origin w r x is = elim (offers.changes w r) [
-    | inl same ↦ origin_in_f1 w r x (sym same ∙ is)
-    | inr n ↦ (let h : Some n.0 ≡ Some x = sym n.1 ∙ is in
-        let same : n.0 ≡ x = cc in
-        fresh (subst (λ y. IsSuccessor g l bound s w r y) same n.2) (subst (λ (y : Reached). y.settled ≡ false) same n.3))
-  ]
+  pub scanning_weaker : (P Q : ℕ → ℕ → ℕ → Type 0) (f : Frontier) (s : Scan) → ((v q t : ℕ) → P v q t → Q v q t) → IsScanning g l starts dep P f s → IsScanning g l starts dep Q f s
+  scanning_weaker P Q f s imp scanning = record {
+    right = scanning.right;
+    base = scanning.base;
+    in_range = scanning.in_range;
+    traced = scanning.traced;
+    starts_reached = scanning.starts_reached;
+    number = scanning.number;
+    row = scanning.row;
+    known = scanning.known;
+    node = scanning.node;
+    state = scanning.state;
+    delay = scanning.delay;
+    link = scanning.link;
+    open_or_done = λ k r known. elim (scanning.open_or_done k r known) [
+      | inl is ↦ inl is
+      | inr rest ↦ inr (elim rest [
+        | inl waits ↦ inl waits
+        | inr done ↦ inr (λ early. (let was = done early in record { seen = imp r.node r.state (f.base + r.delay) was.seen; arcs = was.arcs }))
+      ])
+    ];
+  }
 
-  -- ---- what stays
+  -- the search goes no further than u
+  abbrev up_to : ℕ → Frontier → Frontier
+  up_to u f = record f { until = u }
 
-  stays_from_f1 : (w r : ℕ) (x : Reached) → reached_at f1 w r ≡ Some x → x.settled ≡ true → reached_at f2 w r ≡ Some x
-  stays_from_f1 w r x is settled = elim (offers.changes w r) [
-    | inl same ↦ same ∙ is
-    | inr n ↦ (let h : CanHasten (Some x) (n.0).at = subst (λ o. CanHasten o (n.0).at) is n.4 in absurd (false≢true (sym h.0 ∙ settled)))
-  ]
+  right_until : (u : ℕ) (f : Frontier) → IsFrontier f → IsFrontier (up_to u f)
+  right_until u f right = record {
+    queue = right.queue;
+    apart = right.apart;
+    indexed = right.indexed;
+    last_ways = λ k r known. (let last = right.last_ways k r known in (last.0, record { known = (last.1).known; row = (last.1).row; delay = (last.1).delay }));
+    soon = right.soon;
+    few = right.few;
+    few_ways = right.few_ways;
+  }
 
-  stays : (w r : ℕ) (x : Reached) → reached_at f w r ≡ Some x → x.settled ≡ true → reached_at f2 w r ≡ Some x
-  stays w r x is settled = stays_from_f1 w r x (settled_stays f f1 s least w r x is settled) settled
+  pub scanning_until : (u : ℕ) (P : ℕ → ℕ → ℕ → Type 0) (f : Frontier) (s : Scan) → u ≤ f.until → (u ≡ 2 ^ 64 - 1 → f.until ≡ 2 ^ 64 - 1)
+      → IsScanning g l starts dep P f s → IsScanning g l starts dep P (record f { until = u }) s
+  scanning_until u P f s le all scanning = record {
+    right = right_until u f scanning.right;
+    base = scanning.base;
+    in_range = scanning.in_range;
+    traced = λ n w known. traced_keeps g l starts f (up_to u f) refl (keeps_same f (up_to u f) refl) (λ n w known. known) n w (scanning.traced n w known);
+    starts_reached = λ k lt. starts_same g l P f (up_to u f) refl refl wanted (slice_index starts k) (scanning.starts_reached k lt);
+    number = scanning.number;
+    row = scanning.row;
+    known = scanning.known;
+    node = scanning.node;
+    state = scanning.state;
+    delay = scanning.delay;
+    link = scanning.link;
+    open_or_done = λ k r known. elim (scanning.open_or_done k r known) [
+      | inl is ↦ inl is
+      | inr rest ↦ inr (elim rest [
+        | inl waits ↦ inl waits
+        | inr done ↦ inr (λ early. done_same g l P f (up_to u f) refl refl wanted r (done (omega (arith, early, le))))
+      ])
+    ];
+  } where
+    wanted : (t : ℕ) → IsWanted (up_to u f) t → IsWanted f t
+    wanted t is = elim is [ inl top ↦ inl (all top) | inr lt ↦ inr (omega (arith, lt, le)) ]
 
-  here_in_f2 : reached_at f2 s.node s.state ≡ Some (record (least.entry) { settled = true })
-  here_in_f2 = stays_from_f1 s.node s.state (record (least.entry) { settled = true }) (here_now f f1 s least) refl
+  module _ (P : ℕ → ℕ → ℕ → Type 0) (f : Frontier) (s : Scan) (scanning : IsScanning g l starts dep P f s) where
+    pub scanning_here : IsReachedBy f s.node s.state (f.base + s.delay)
+    scanning_here = record {
+      number = scanning.number;
+      row = scanning.row;
+      known = scanning.known;
+      node = sym scanning.node;
+      state = sym scanning.state;
+      by = omega (arith, scanning.delay);
+    }
 
-  reached_in_f2 : (w r u : ℕ) → IsReachedBy f w r u → IsReachedBy f2 w r u
-  reached_in_f2 w r u by = reached_keeps f1 f2 (IsSuccessor g l bound s) offers w r u (reached_stays f f1 s least w r u by)
+    pub scanning_reached : IsReachedAt g l starts dep s.node s.state (dep + s.delay)
+    scanning_reached = rw (sym scanning.base, scanning.node, scanning.state, scanning.delay)
+        (row_reached g l starts f scanning.traced scanning.right scanning.number scanning.row scanning.known)
 
-  -- ---- the count
+    pub scanning_range : (s.node < g.nodes) × (s.state < l.states)
+    scanning_range = rw (scanning.node, scanning.state) (scanning.in_range scanning.number scanning.row scanning.known)
 
-  entry_in_range : (s.node < g.nodes) × (s.state < l.states)
-  entry_in_range = searching.in_range s.node s.state (least.entry) least.waited
+  -- ---- where it is an end, and the search goes up to it
 
-  same_settled : (v q : ℕ) → is_settled (reached_at f1 v q) ≡ is_settled (reached_at f2 v q)
-  same_settled v q = elim (offers.changes v q) [
-    | inl same ↦ ap is_settled (sym same)
-    | inr n ↦ not_yet (reached_at f1 v q) (n.0).at n.4 ∙ sym (ap is_settled n.1 ∙ n.3)
-  ] where
-    not_yet : (o : Option Reached) (u : ℕ) → CanHasten o u → is_settled o ≡ false
-    not_yet None u h = refl
-    not_yet (Some x) u h = h.0
+  pub scanning_ends : (P : ℕ → ℕ → ℕ → Type 0) (f : Frontier) (s : Scan) → f.until ≡ s.delay → IsScanning g l starts dep P f s → IsSearching g l starts dep P f
+  scanning_ends P f s last scanning = record {
+    right = scanning.right;
+    base = scanning.base;
+    in_range = scanning.in_range;
+    traced = scanning.traced;
+    starts_reached = scanning.starts_reached;
+    open_or_done = λ k r known. elim (scanning.open_or_done k r known) [
+      | inl is ↦ inr (λ early. (let same : Some r ≡ Some scanning.row = sym known ∙ ap (λ n. slice_get (rows f) n) is ∙ scanning.known in
+          let e : r ≡ scanning.row = cc in
+          absurd (omega (arith, early, last, scanning.delay, ap (λ (x : Row). x.delay) e))))
+      | inr rest ↦ rest
+    ];
+  }
 
-  pub one_less : unsettled g l f ≡ unsettled g l f2 + 1
-  one_less =
-      unsettled_one g l f f1 s.node s.state entry_in_range.0 entry_in_range.1 (ap is_settled least.waited ∙ least.unsettled) (ap is_settled (here_now f f1 s least))
-      (λ w r other. ap is_settled (sym (others_now f f1 s least w r other)))
-      ∙ ap (λ n. n + 1) (unsettled_same g l f1 f2 same_settled)
+-- ---- its arcs are explored
 
-  -- ---- the numbers
+module _ (g : GraphMeaning) (lawful : IsLawfulGraph g) (l : LabelsMeaning) (labels : IsLawfulLabels l) (starts : List ℕ) (dep : ℕ) (P : ℕ → ℕ → ℕ → Type 0)
+    (f f2 : Frontier) (s : Scan) (scanning : IsScanning g l starts dep P f s) (offers : Offers f f2 (IsSuccessor g l f.base s)) (right : IsFrontier f2) where
+  -- the last way to it, and its row now
+  abbrev last : (w : Taken) × IsLastWay f scanning.number scanning.row w
+  last = (scanning.right).last_ways scanning.number scanning.row scanning.known
 
-  numbers : KeepsNumbers f f2
-  numbers v q k at = offers.numbers v q k (least.numbers v q k at)
+  abbrev now : (r : Row) × (slice_get (rows f2) scanning.number ≡ Some r) × IsNoLater scanning.row r
+  now = offers.kept scanning.number scanning.row scanning.known
 
-  -- the number of the settled one
-  abbrev number : ℕ
-  number = least.link.0
-
-  is_number : s.link ≡ suc number
-  is_number = least.link.1
-
-  at_number : IsAt (rows f2) s.node s.state number
-  at_number = offers.numbers s.node s.state number least.link.2
-
-  -- ---- the depth
-
-  pub depth : ℕ → ℕ → ℕ
-  depth = deepened searching.depth f2
-
-  -- the parent stays, and so does the depth
-  depth_same : (w r : ℕ) (x y : Reached) → reached_at f w r ≡ Some x → reached_at f2 w r ≡ Some y → y.parent ≡ x.parent → depth w r ≡ searching.depth w r
-  unfolding depth
-  depth_same w r x y was is same =
-      ap (λ o. depth_by searching.depth f2 (parent_of o) (searching.depth w r)) is ∙ ap (λ p. depth_by searching.depth f2 p (searching.depth w r)) same
-      ∙ depth_traced g l starts dep searching.depth f f2 numbers w r x x.parent (searching.traced w r x was)
-
-  depth_here : depth s.node s.state ≡ searching.depth s.node s.state
-  depth_here = depth_same s.node s.state (least.entry) (record (least.entry) { settled = true }) least.waited here_in_f2 refl
-
-  depth_fresh : (w r : ℕ) (x : Reached) → reached_at f2 w r ≡ Some x → IsSuccessor g l bound s w r x → depth w r ≡ searching.depth s.node s.state + 1
-  unfolding depth
-  depth_fresh w r x is n =
-      ap (λ o. depth_by searching.depth f2 (parent_of o) (searching.depth w r)) is
-      ∙ ap (λ p. depth_by searching.depth f2 p (searching.depth w r)) (ap (λ (y : Reached). y.parent) n.as_made ∙ is_number)
-      ∙ depth_past_parent searching.depth f2 s.node s.state number (searching.depth w r) at_number
-
-  settled_stay : (w r : ℕ) (x : Reached) → reached_at f w r ≡ Some x → x.settled ≡ true → (reached_at f2 w r ≡ Some x) × (depth w r ≡ searching.depth w r)
-  settled_stay w r x was settled = let is = stays w r x was settled in (is, depth_same w r x x was is refl)
-
-  -- ---- the parts of the invariant
-
-  fresh_in_range : (w r : ℕ) (x : Reached) → IsSuccessor g l bound s w r x → (w < g.nodes) × (r < l.states)
-  fresh_in_range w r x n = (
-    subst (λ v. v < g.nodes) (sym n.node) (lawful.to_in_range s.node n.place n.has),
-    state_in_range l labels (g.arc_at s.node n.place).letter s.state r entry_in_range.1 n.state,
-  )
-
-  in_range : (v q : ℕ) (x : Reached) → reached_at f2 v q ≡ Some x → (v < g.nodes) × (q < l.states)
-  in_range v q x is = elim (origin v q x is) [
-    | fresh n w ↦ fresh_in_range v q x n
-    | here ev eq e ↦ (subst (λ y. y < g.nodes) (sym ev) entry_in_range.0, subst (λ y. y < l.states) (sym eq) entry_in_range.1)
-    | before was ↦ searching.in_range v q x was
-  ]
-
-  fresh_traced : (w r : ℕ) (x : Reached) → reached_at f2 w r ≡ Some x → IsSuccessor g l bound s w r x → IsTracedTo g l starts dep depth f2 w r x x.parent
-  fresh_traced w r x is n =
-      let arc : n.place ≡ x.arc = sym (ap (λ (y : Reached). y.arc) n.as_made) in
-      rw (ap (λ (y : Reached). y.parent) n.as_made ∙ is_number) (record {
-        from = s.node;
-        in_state = s.state;
-        number = at_number;
-        before = record (least.entry) { settled = true };
-        known = here_in_f2;
-        settled = refl;
-        deeper = depth_fresh w r x is n ∙ ap (λ k. k + 1) (sym depth_here);
-        has = subst (λ i. HasArc g s.node i) arc n.has;
-        arrives = subst (λ i. g.arrive s.node i (least.entry).at ≡ Some x.at) arc (subst (λ t. g.arrive s.node n.place t ≡ Some x.at) least.at n.arrives);
-        node = subst (λ i. w ≡ (g.arc_at s.node i).to) arc n.node;
-        state = subst (λ i. Follows l s.state (g.arc_at s.node i).letter r) arc n.state;
+  fresh_traced : (n : ℕ) (w : Taken) → length (ways f) ≤ n → (r : Row) → IsSuccessor g l f.base s r.node r.state (reached_by w) → IsTracedTo g l starts f2 n r w w.parent
+  fresh_traced n w from r next =
+      let parent : w.parent ≡ suc (scanning.row).way = ap (λ (x : Reached). x.parent) next.as_made ∙ scanning.link in
+      let arc : w.arc ≡ next.place = ap (λ (x : Reached). x.arc) next.as_made in
+      let node : (now.0).node ≡ s.node = (now.2).node ∙ sym scanning.node in
+      let state : (now.0).state ≡ s.state = (now.2).state ∙ sym scanning.state in
+      let delay : (last.0).delay ≡ s.delay = (last.1).delay ∙ sym scanning.delay in
+      rw parent (record {
+        before = (let in_old = slice_get_within (ways f) (scanning.row).way last.0 (last.1).known in omega (arith, in_old, from));
+        way = last.0;
+        known = offers.stay (scanning.row).way last.0 (last.1).known;
+        from = now.0;
+        leads = ap (λ k. slice_get (rows f2) k) (last.1).row ∙ now.1;
+        has = rw (node, arc) next.has;
+        arrives = rw (node, arc, offers.base, delay) next.arrives;
+        node = rw (node, arc) next.node;
+        state = rw (node, arc, state) next.state;
       })
 
-  here_traced : (w r : ℕ) (x : Reached) → w ≡ s.node → r ≡ s.state → x ≡ record (least.entry) { settled = true } → IsTracedTo g l starts dep depth f2 w r x x.parent
-  here_traced w r x ew er e =
-      let was : IsTracedTo g l starts dep depth f2 s.node s.state (least.entry) (least.entry).parent =
-      keeps_traced g l starts dep searching.depth depth f f2 settled_stay numbers s.node s.state (least.entry) (least.entry).parent depth_here (searching.traced s.node s.state (least.entry) least.waited) in
-      subst (λ y. IsTracedTo g l starts dep depth f2 w r y y.parent) (sym e)
-      (subst (λ v. IsTracedTo g l starts dep depth f2 v r (record (least.entry) { settled = true }) (least.entry).parent) (sym ew)
-      (subst (λ q. IsTracedTo g l starts dep depth f2 s.node q (record (least.entry) { settled = true }) (least.entry).parent) (sym er)
-      (marked_traced s.node s.state (least.entry) (least.entry).parent was))) where
-        marked_traced : (v q : ℕ) (y : Reached) (p : ℕ) → IsTracedTo g l starts dep depth f2 v q y p → IsTracedTo g l starts dep depth f2 v q (record y { settled = true }) p
-        marked_traced v q y zero from = record { starts_there = from.starts_there; is_state = from.is_state; is_start = from.is_start; at = from.at }
-        marked_traced v q y (suc k) from = record {
-          from = from.from;
-          in_state = from.in_state;
-          number = from.number;
-          before = from.before;
-          known = from.known;
-          settled = from.settled;
-          deeper = from.deeper;
-          has = from.has;
-          arrives = from.arrives;
-          node = from.node;
-          state = from.state;
+  traced_on : AreTraced g l starts f2
+  traced_on n w known = elim (cases_lt n (length (ways f))) [
+    | inl lt ↦ (let was : slice_get (ways f) n ≡ Some (get_or (ways f) n w) = slice_get-get_or (ways f) n w lt in
+        let same : Some (get_or (ways f) n w) ≡ Some w = sym (offers.stay n (get_or (ways f) n w) was) ∙ known in
+        let e : get_or (ways f) n w ≡ w = cc in
+        traced_keeps g l starts f f2 offers.base offers.kept offers.stay n w (scanning.traced n w (was ∙ ap Some e)))
+    | inr from ↦ elim (offers.taken n w known) [
+      | inl was ↦ traced_keeps g l starts f f2 offers.base offers.kept offers.stay n w (scanning.traced n w was)
+      | inr fresh ↦ (fresh.0, fresh.1, fresh_traced n w from fresh.0 fresh.2)
+    ]
+  ]
+
+  range_on : (k : ℕ) (r : Row) → slice_get (rows f2) k ≡ Some r → (r.node < g.nodes) × (r.state < l.states)
+  range_on k r known =
+      let way = right.last_ways k r known in
+      let leads : slice_get (rows f2) (way.0).row ≡ Some r = ap (λ n. slice_get (rows f2) n) (way.1).row ∙ known in
+      elim (offers.taken r.way way.0 (way.1).known) [
+        | inl was ↦ (let old = scanning.traced r.way way.0 was in
+            let still = offers.kept (way.0).row old.0 old.1 in
+            let same : Some still.0 ≡ Some r = sym still.1 ∙ leads in
+            let e : still.0 ≡ r = cc in
+            let range = scanning.in_range (way.0).row old.0 old.1 in
+            (subst (λ v. v < g.nodes) (sym (still.2).node ∙ ap (λ (x : Row). x.node) e) range.0, subst (λ q. q < l.states) (sym (still.2).state ∙ ap (λ (x : Row). x.state) e) range.1))
+        | inr fresh ↦ (let same : Some fresh.0 ≡ Some r = sym fresh.1 ∙ leads in
+            let e : fresh.0 ≡ r = cc in
+            let next = fresh.2 in
+            let of = scanning_range g l starts dep P f s scanning in (
+              subst (λ v. v < g.nodes) (sym next.node ∙ ap (λ (x : Row). x.node) e) (lawful.to_in_range s.node next.place next.has),
+              subst (λ q. q < l.states) (ap (λ (x : Row). x.state) e) (state_in_range l labels (g.arc_at s.node next.place).letter s.state (fresh.0).state of.1 next.state),
+            ))
+      ]
+
+  arc_on : (v q t i : ℕ) → ArcIsReached g l f v q t i → ArcIsReached g l f2 v q t i
+  arc_on v q t i arc u e in_time = all_after_weaker l q (g.arc_at v i).letter (λ r. IsReachedBy f (g.arc_at v i).to r u) (λ r. IsReachedBy f2 (g.arc_at v i).to r u)
+      (λ r. reached_keeps f f2 (IsSuccessor g l f.base s) offers (g.arc_at v i).to r u) (arc u e (wanted_same f f2 (IsSuccessor g l f.base s) offers u in_time))
+
+  pub scanning_on : ((i : ℕ) → i < g.arcs s.node → ArcIsReached g l f2 s.node s.state (f2.base + s.delay) i) → P s.node s.state (dep + s.delay) → IsSearching g l starts dep P f2
+  scanning_on reached seen = record {
+    right = right;
+    base = offers.base ∙ scanning.base;
+    in_range = range_on;
+    traced = traced_on;
+    starts_reached = λ k lt q in_q start. subst (λ b. IsReachedBy f2 (slice_index starts k) q b) (sym offers.base)
+        (reached_keeps f f2 (IsSuccessor g l f.base s) offers (slice_index starts k) q f.base (scanning.starts_reached k lt q in_q start));
+    open_or_done = λ k r known. elim (offers.changes k r known) [
+      | inl was ↦ elim (scanning.open_or_done k r was) [
+        | inl is ↦ inr (λ early. done_here k r is was)
+        | inr rest ↦ elim rest [
+          | inl waits ↦ inl (offers.queued r.delay _ waits)
+          | inr done ↦ inr (λ early. done_on r (done (omega (arith, early, offers.until))))
+        ]
+      ]
+      | inr waits ↦ inl waits
+    ];
+  } where
+    done_here : (k : ℕ) (r : Row) → k ≡ scanning.number → slice_get (rows f) k ≡ Some r → IsDone g l P f2 r
+    done_here k r is was =
+        let same : Some scanning.row ≡ Some r = sym scanning.known ∙ ap (λ n. slice_get (rows f) n) (sym is) ∙ was in
+        let e : scanning.row ≡ r = cc in
+        let node : r.node ≡ s.node = ap (λ (x : Row). x.node) (sym e) ∙ sym scanning.node in
+        let state : r.state ≡ s.state = ap (λ (x : Row). x.state) (sym e) ∙ sym scanning.state in
+        let delay : r.delay ≡ s.delay = ap (λ (x : Row). x.delay) (sym e) ∙ sym scanning.delay in
+        record {
+          seen = rw (node, state, delay, offers.base, scanning.base) seen;
+          arcs = rw (node, state, delay) reached;
         }
 
-  pub traced : (v q : ℕ) (x : Reached) → reached_at f2 v q ≡ Some x → IsTracedTo g l starts dep depth f2 v q x x.parent
-  traced v q x is = elim (origin v q x is) [
-    | fresh n w ↦ fresh_traced v q x is n
-    | here ev eq e ↦ here_traced v q x ev eq e
-    | before was ↦ keeps_traced g l starts dep searching.depth depth f f2 settled_stay numbers v q x x.parent (depth_same v q x x was is refl) (searching.traced v q x was)
+    done_on : (r : Row) → IsDone g l P f r → IsDone g l P f2 r
+    done_on r done = record {
+      seen = subst (λ b. P r.node r.state (b + r.delay)) (sym offers.base) done.seen;
+      arcs = λ i lt. subst (λ b. ArcIsReached g l f2 r.node r.state (b + r.delay) i) (sym offers.base) (arc_on r.node r.state (f.base + r.delay) i (done.arcs i lt));
+    }
+
+-- ---- the beginning
+
+module _ (g : GraphMeaning) (l : LabelsMeaning) (starts : List ℕ) (dep : ℕ) (P : ℕ → ℕ → ℕ → Type 0) (f0 f : Frontier) (in_range : All (λ v. v < g.nodes) starts)
+    (base : f0.base ≡ dep) (no_rows : rows f0 ≡ []) (no_ways : ways f0 ≡ []) (offers : Offers f0 f (IsStartAmong l starts)) (right : IsFrontier f)
+    (reached : (k : ℕ) → k < length starts → StartIsReached f l (slice_index starts k)) where
+  start_way : (n : ℕ) (w : Taken) → slice_get (ways f) n ≡ Some w → (r : Row) × (slice_get (rows f) w.row ≡ Some r) × IsStartAmong l starts r.node r.state (reached_by w)
+  start_way n w known = elim (offers.taken n w known) [
+    | inl was ↦ (let none : slice_get [] n ≡ Some w = ap (λ ws. slice_get ws n) (sym no_ways) ∙ was in absurd (omega (arith, slice_get_within [] n w none)))
+    | inr fresh ↦ fresh
   ]
 
-  entry_bounded : (least.entry).at + 2 ^ 57 * unsettled g l f ≤ dep + 2 ^ 57 * (g.nodes * l.states)
-  entry_bounded = searching.bounded s.node s.state (least.entry) least.waited
-
-  pub bounded : (v q : ℕ) (x : Reached) → reached_at f2 v q ≡ Some x → x.at + 2 ^ 57 * unsettled g l f2 ≤ dep + 2 ^ 57 * (g.nodes * l.states)
-  bounded v q x is = elim (origin v q x is) [
-    | fresh n w ↦ omega (arith, lawful.not_late s.node n.place s.at x.at n.has n.arrives, least.at, entry_bounded, one_less)
-    | here ev eq e ↦ omega (arith, ap (λ (y : Reached). y.at) e, entry_bounded, one_less)
-    | before was ↦ omega (arith, searching.bounded v q x was, one_less)
-  ]
-
-  pub shallow : (v q : ℕ) (x : Reached) → reached_at f2 v q ≡ Some x → depth v q + unsettled g l f2 ≤ g.nodes * l.states
-  shallow v q x is =
-      let entry_shallow = searching.shallow s.node s.state (least.entry) least.waited in
-      elim (origin v q x is) [
-        | fresh n w ↦ omega (arith, depth_fresh v q x is n, entry_shallow, one_less)
-        | here ev eq e ↦ (let same : depth v q ≡ searching.depth s.node s.state = ap (λ w. depth w q) ev ∙ ap (λ r. depth s.node r) eq ∙ depth_here in
-            omega (arith, same, entry_shallow, one_less))
-        | before was ↦ omega (arith, depth_same v q x x was is refl, searching.shallow v q x was, one_less)
-      ]
-
-  pub within : (v q : ℕ) (x : Reached) → reached_at f2 v q ≡ Some x → IsWithin bound x.at
-  within v q x is = elim (origin v q x is) [
-    | fresh n w ↦ n.within
-    | here ev eq e ↦ subst (λ (y : Reached). IsWithin bound y.at) (sym e) (searching.within s.node s.state (least.entry) least.waited)
-    | before was ↦ searching.within v q x was
-  ]
-
-  -- what is settled now is no later than s, and what waits is no earlier
-  settled_early : (v q : ℕ) (x : Reached) → reached_at f2 v q ≡ Some x → x.settled ≡ true → x.at ≤ s.at
-  settled_early v q x is settled = elim (origin v q x is) [
-    | fresh n w ↦ absurd (false≢true (sym w ∙ settled))
-    | here ev eq e ↦ omega (arith, ap (λ (y : Reached). y.at) e, least.at)
-    | before was ↦ searching.in_order v q s.node s.state s.at x was settled (waited_then f f1 s least)
-  ]
-
-  waits_late : (w r u : ℕ) (o : Option Reached) → reached_at f2 w r ≡ o → waits_at o u ≡ true → s.at ≤ u
-  waits_late w r u None is waits = absurd (false≢true waits)
-  waits_late w r u (Some x) is waits =
-      let p = and_parts (not x.settled) (x.at == u) waits in
-      elim (origin w r x is) [
-        | fresh n w ↦ omega (arith, lawful.not_before s.node n.place s.at x.at n.has n.arrives, eqb-true x.at u p.1)
-        | here ev eq e ↦ absurd (false≢true (sym (not-true x.settled p.0) ∙ ap (λ (y : Reached). y.settled) e))
-        | before was ↦ least.least w r u (ap (λ o. waits_at o u) was ∙ waits)
-      ]
-
-module _ (g : GraphMeaning) (lawful : IsLawfulGraph g) (l : LabelsMeaning) (labels : IsLawfulLabels l) (starts targets : List ℕ) (dep : ℕ) (bound : Option ℕ)
-    (f f1 f2 : Frontier) (s : Settled) (searching : IsSearching g l starts targets dep bound f) (least : SettlesLeast f f1 s)
-    (offers : Offers f1 f2 (IsSuccessor g l bound s)) (right : IsQueueRight f2)
-    (reached : (i : ℕ) → i < g.arcs s.node → ArcIsReached g l bound f2 s.node s.state s.at i)
-    (no_end : Contains targets s.node → IsTrue (l.accepts s.state) → ⊥) where
-  closed : (v q : ℕ) (x : Reached) → reached_at f2 v q ≡ Some x → x.settled ≡ true → (i : ℕ) → i < g.arcs v → ArcIsReached g l bound f2 v q x.at i
-  closed v q x is settled = elim (origin g lawful l labels starts targets dep bound f f1 f2 s searching least offers v q x is) [
-    | fresh n w ↦ absurd (false≢true (sym w ∙ settled))
-    | here ev eq e ↦ closed_here v q x ev eq e
-    | before was ↦ (λ i lt. arc_stays v q x.at i (searching.closed v q x was settled i lt))
-  ] where
-    closed_here : (v q : ℕ) (x : Reached) → v ≡ s.node → q ≡ s.state → x ≡ record (least.entry) { settled = true } → (i : ℕ) → i < g.arcs v → ArcIsReached g l bound f2 v q x.at i
-    closed_here v q x ev eq e =
-        let at : s.at ≡ x.at = least.at ∙ sym (ap (λ (y : Reached). y.at) e) in
-        let P : ℕ → ℕ → ℕ → Type 0 = λ v q t. (i : ℕ) → i < g.arcs v → ArcIsReached g l bound f2 v q t i in
-        subst (λ y. P y q x.at) (sym ev) (subst (λ y. P s.node y x.at) (sym eq) (subst (λ t. P s.node s.state t) at reached))
-
-    arc_stays : (v q t i : ℕ) → ArcIsReached g l bound f v q t i → ArcIsReached g l bound f2 v q t i
-    arc_stays v q t i was u e in_bound =
-        all_after_weaker l q (g.arc_at v i).letter (λ r. IsReachedBy f (g.arc_at v i).to r u) (λ r. IsReachedBy f2 (g.arc_at v i).to r u)
-        (λ r by. reached_in_f2 g lawful l labels starts targets dep bound f f1 f2 s searching least offers (g.arc_at v i).to r u by) (was u e in_bound)
-
-  none_ends : (v q : ℕ) (x : Reached) → reached_at f2 v q ≡ Some x → x.settled ≡ true → Contains targets v → IsTrue (l.accepts q) → ⊥
-  none_ends v q x is settled target accepts = elim (origin g lawful l labels starts targets dep bound f f1 f2 s searching least offers v q x is) [
-    | fresh n w ↦ absurd (false≢true (sym w ∙ settled))
-    | here ev eq e ↦ no_end (subst (λ y. Contains targets y) ev target) (subst (λ y. IsTrue (l.accepts y)) eq accepts)
-    | before was ↦ searching.no_end v q x was settled target accepts
-  ]
-
-  pub searching_on : IsSearching g l starts targets dep bound f2
-  searching_on = record {
+  pub searching_begins : IsSearching g l starts dep P f
+  searching_begins = record {
     right = right;
-    in_range = in_range g lawful l labels starts targets dep bound f f1 f2 s searching least offers;
-    depth = depth g lawful l labels starts targets dep bound f f1 f2 s searching least offers;
-    traced = traced g lawful l labels starts targets dep bound f f1 f2 s searching least offers;
-    shallow = shallow g lawful l labels starts targets dep bound f f1 f2 s searching least offers;
-    bounded = bounded g lawful l labels starts targets dep bound f f1 f2 s searching least offers;
-    within = within g lawful l labels starts targets dep bound f f1 f2 s searching least offers;
-    starts_reached = λ k lt q in_q start. reached_in_f2 g lawful l labels starts targets dep bound f f1 f2 s searching least offers _ q dep (searching.starts_reached k lt q in_q start);
-    in_order = λ v q w r u x is settled waits.
-        (let early = settled_early g lawful l labels starts targets dep bound f f1 f2 s searching least offers v q x is settled in let late = waits_late g lawful l labels starts targets dep bound f f1 f2 s searching least offers w r u (reached_at f2 w r) refl waits in omega (arith, early, late));
-    closed = closed;
-    no_end = none_ends;
+    base = offers.base ∙ base;
+    in_range = λ k r known. (
+        let way = right.last_ways k r known in
+        let start = start_way r.way way.0 (way.1).known in
+        let same : Some start.0 ≡ Some r = sym start.1 ∙ ap (λ n. slice_get (rows f) n) (way.1).row ∙ known in
+        let e : start.0 ≡ r = cc in (
+          subst (λ (x : Row). x.node < g.nodes) e (All-contains (λ v. v < g.nodes) starts (start.0).node in_range (start.2).starts_there),
+          subst (λ (x : Row). x.state < l.states) e (start.2).is_state,
+        ));
+    traced = λ n w known. (
+        let start = start_way n w known in
+        let is = start.2 in (
+          start.0,
+          start.1,
+          subst (λ p. IsTracedTo g l starts f n start.0 w p) (sym (ap (λ (x : Reached). x.parent) is.as_made)) (record {
+            starts_there = is.starts_there;
+            is_state = is.is_state;
+            is_start = is.is_start;
+            at = ap (λ (x : Reached). x.delay) is.as_made;
+          }),
+        ));
+    starts_reached = reached;
+    open_or_done = λ k r known. elim (offers.changes k r known) [
+      | inl was ↦ (let none : slice_get [] k ≡ Some r = ap (λ rs. slice_get rs k) (sym no_rows) ∙ was in absurd (omega (arith, slice_get_within [] k r none)))
+      | inr waits ↦ inl waits
+    ];
   }
+
+-- ---- the end
+
+module _ (g : GraphMeaning) (lawful : IsLawfulGraph g) (l : LabelsMeaning) (starts : List ℕ) (dep : ℕ) (P : ℕ → ℕ → ℕ → Type 0) (f f1 : Frontier)
+    (searching : IsSearching g l starts dep P f) (over : TakesNone f f1) where
+  pub searching_over : IsSearched g l starts dep P f1
+  searching_over = record {
+    right = over.right;
+    base = (over.same).base ∙ searching.base;
+    traced = traced_still g l starts f f1 over.same searching.traced;
+    complete = λ v q t reached in_time. known_by v q t (complete g lawful l starts dep P f searching t (wanted t in_time) (none t (wanted t in_time)) v q reached);
+    seen = λ k r known early. elim (searching.open_or_done k r (before k r known)) [
+      | inl waits ↦ (let late = over.none k r (before k r known) waits in absurd (omega (arith, early, late, (over.same).until)))
+      | inr done ↦ subst (λ b. P r.node r.state (b + r.delay)) (sym (over.same).base) (done (omega (arith, early, (over.same).until))).seen
+    ];
+  } where
+    before : (k : ℕ) (r : Row) → slice_get (rows f1) k ≡ Some r → slice_get (rows f) k ≡ Some r
+    before = row_still f f1 over.same
+
+    wanted : (t : ℕ) → IsWanted f1 t → IsWanted f t
+    wanted = wanted_still f f1 over.same
+
+    none : (t : ℕ) → IsWanted f t → NoneWaitsBy f t
+    none t is k r known le waits =
+        let late = over.none k r known waits in
+        elim is [
+          | inl all ↦ absurd (omega (arith, all, late, (searching.right).soon k r known))
+          | inr lt ↦ absurd (omega (arith, lt, le, late))
+        ]
+
+    known_by : (v q t : ℕ) → (b : ℕ) × (b ≤ t) × IsDoneAt g l P f v q b → IsReachedBy f1 v q t
+    known_by v q t (b, le, done) = reached_same f f1 (over.same).base (over.same).rows v q t (record {
+      number = done.number;
+      row = done.row;
+      known = done.known;
+      node = done.node;
+      state = done.state;
+      by = omega (arith, le, done.at);
+    })
+
+-- ---- the turns come to an end
+
+ways_grow : (old new : Frontier) (P : ℕ → ℕ → Reached → Type 0) → Offers old new P → length (ways old) ≤ length (ways new)
+ways_grow old new P offers = go (length (ways old)) refl where
+  none : Taken
+  none = record { delay = 0; arc = 0; parent = 0; row = 0 }
+
+  go : (n : ℕ) → length (ways old) ≡ n → n ≤ length (ways new)
+  go zero e = omega arith
+  go (suc n) e =
+      let last = slice_get_within (ways new) n _ (offers.stay n _ (slice_get-get_or (ways old) n none (omega (arith, e)))) in
+      omega (arith, last)
+
+-- a turn takes an item, and adds as many items as ways, of which there is an end
+pub turn_smaller : (f f1 f2 : Frontier) (s : Scan) (P : ℕ → ℕ → Reached → Type 0) → Takes f f1 s → Offers f1 f2 P → IsFrontier f2
+    → queue_len f2.queue + 2 * (2 ^ 32 - length (ways f2)) < queue_len f.queue + 2 * (2 ^ 32 - length (ways f))
+turn_smaller f f1 f2 s P takes offers right =
+    omega (arith, takes.fewer, offers.count, right.few_ways, ways_grow f1 f2 P offers, ap length (takes.same).ways)

@@ -1,9 +1,6 @@
 pub mod Exploring
-pub mod Heaped
-pub mod Kept
 pub mod MoveTables
 pub mod Noting
-pub mod OfRows
 pub mod Places
 pub mod Searching
 pub mod Trail

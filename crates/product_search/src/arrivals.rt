@@ -3,13 +3,12 @@
 ghost use Rattle.std.specs.Prelude.{◌≡◌, ◌<◌, ◌^◌, All, IfOk, map};
 ghost use Rattle.product_search.specs.Arrivals.{AreArrivals};
 ghost use Rattle.product_search.specs.inside.Noting.{AreAllTimes, time_of};
-ghost use Rattle.product_search.specs.inside.Waiting.{IsQueueRight};
+ghost use Rattle.product_search.specs.inside.Waiting.{IsFrontier};
 
 use crate::chains::Chains;
 use crate::explore::explore;
 use crate::frontier::Frontier;
 use crate::machine::Machine;
-use crate::product::Product;
 use crate::start::offer_starts;
 use crate::targets::{Noted, TargetTable};
 use crate::workspace::Workspace;
@@ -17,7 +16,7 @@ use search_laws::{GivenRuns, Graph, Labels, Time};
 use std::alloc::{AllocError, Global};
 
 /// For each target, in order, the least arrival over all walks from a start at `dep` to that target that the automaton accepts, if
-/// there is one. The search ends when all targets are reached in an accepting state, or nothing is left.
+/// there is one. The search ends when no target can be reached sooner, or nothing is left.
 ///
 /// No time of the answer is above `dep + 2^98`. Memory is taken where the workspace takes it. Fails as [`crate::search`] does.
 pub fn search_arrivals<G: Graph, L: Labels>(
@@ -35,22 +34,23 @@ pub fn search_arrivals<G: Graph, L: Labels>(
 {
     let alloc = workspace.allocator();
     let kept = workspace.take(alloc);
-    let arrived = settle_targets(kept, graph, machine, starts, targets, dep)?;
+    let arrived = reach_targets(kept, graph, machine, starts, targets, dep)?;
     let Arrived { frontier, noted } = arrived;
     workspace.put(frontier);
     let list = listed(alloc, targets, &noted)?;
     Ok(list)
 }
 
-/// What a search has settled, and when each target was reached, by its place in the table.
+/// What a search has reached, and when each target was reached, by its place in the table.
 #[derive(Drop)]
 struct Arrived {
     frontier: Frontier,
     noted: Noted,
 }
 
-/// Settles product states from the starts on, until all targets are reached in an accepting state.
-fn settle_targets<G: Graph, L: Labels>(
+/// Explores product states from the starts on. When all targets are reached in an accepting state, it goes on up to the latest
+/// of these times alone.
+fn reach_targets<G: Graph, L: Labels>(
     workspace: Workspace,
     graph: &G,
     machine: &Machine<L>,
@@ -60,27 +60,22 @@ fn settle_targets<G: Graph, L: Labels>(
 ) -> Result<Arrived, AllocError>
     requires starts { All (λ v. v < (G.meaning graph.now).nodes) starts.now }
     requires dep { dep < 2 ^ 64 }
-    ensures right { IfOk result (λ a. IsQueueRight a.frontier) }
+    ensures right { IfOk result (λ a. IsFrontier a.frontier) }
     ensures times { IfOk result (λ a. AreAllTimes (G.meaning graph.now) (L.automaton machine.now.labels)
         starts.now dep targets.now.places.items a.noted.times.items) }
 {
     let alloc = workspace.allocator();
     let mut noted = Noted::none(alloc, targets)?;
     let chains = Chains::of(graph.nodes(), machine.labels.states(), false);
-    let mut frontier = Frontier::new(alloc, workspace, chains, dep as u64);
-    offer_starts(&mut frontier, &machine.labels, starts, dep)?;
-    let product = Product {
-        graph,
-        machine,
-        bound: None,
-    };
+    let mut frontier = Frontier::new(workspace, chains, dep as u64, u64::MAX);
+    offer_starts(&mut frontier, &machine.labels, starts)?;
     let mut given = GivenRuns::new(alloc);
     let mut ways = Vec::new(alloc);
-    'search: while let Some(settled) = frontier.settle_least()? {
-        if noted.note_end(&machine.labels, targets, settled) {
-            return Ok(Arrived { frontier, noted });
+    'search: while let Some(scan) = frontier.take()? {
+        if noted.note_end(&machine.labels, targets, &frontier, scan) {
+            frontier.until = frontier.until.min(noted.latest);
         }
-        explore(&mut frontier, &mut given, &mut ways, product, settled)?;
+        explore(&mut frontier, &mut given, &mut ways, graph, machine, scan)?;
     }
     Ok(Arrived { frontier, noted })
 }

@@ -1,36 +1,40 @@
-//! What a search has reached, and the queue of those product states that it has not settled.
+//! What a search has reached, and the queue of those product states whose arcs it has not explored since they were reached last.
 
-ghost use Rattle.std.specs.Prelude.{◌≡◌, ◌≢◌, ℕ, ◌<◌, ◌^◌, false, None, Some, IfSome, IfNone, IfOk, OnOk, IsTrue, MatchOption, slice_index, ◌+◌, ◌-◌, ◌↔◌, length};
-ghost use Rattle.product_search.specs.inside.Exploring.{IsReachedBy, IsSettledBy};
-ghost use Rattle.product_search.specs.inside.Waiting.{IsQueueRight, IsOffered, SettlesLeast, NobodyWaits, SameReached, KeepsNumbers, rows, told, reached_at, IsAt, IsNowhere, IsClear, HasChainsFrom, HasAsGood};
-ghost use Rattle.product_search.specs.inside.Kept.{FitsEntry, TellsTime};
-ghost use Rattle.product_search.specs.inside.Queued.{IsQueue, TakesIn};
+ghost use Rattle.std.specs.Prelude.{◌≡◌, ◌≢◌, ℕ, ◌<◌, ◌≤◌, ◌^◌, [], IfSome, IfNone, IfOk, OnOk, MatchOption, slice_index, ◌+◌, ◌-◌, length};
+ghost use Rattle.product_search.specs.inside.Exploring.{IsGiven, IsReachedIfWanted, Offers};
+ghost use Rattle.product_search.specs.inside.Waiting.{IsFrontier, IsReachedBy, IsAt, IsNowhere, IsClear, HasChainsFrom, IsScanOf, IsPassedOver, Takes, TakesNone, Waits, rows, taken_as, delay_at};
 
 use crate::chains::Chains;
-use crate::entry::{Entry, NearWay};
-use crate::queue::Queue;
-use crate::row::{Reached, Row};
-use crate::rows::{Rows, number_of};
+use crate::queue::{Item, Queue};
+use crate::row::{Reached, Row, Taken};
 use crate::workspace::Workspace;
 use search_laws::Time;
 use std::alloc::{AllocError, Global};
 
-/// A product state that was taken from the queue.
+/// A product state that was taken from the queue, to explore its arcs.
 #[derive(Clone, Copy)]
-pub(crate) struct Settled {
+pub(crate) struct Scan {
     pub node: u32,
     pub state: u32,
-    pub at: Time,
-    /// The number of its entry, and 1.
+    /// How long after the departure it is reached, in ms.
+    pub delay: u64,
+    /// The number of the way to it, and 1.
     pub link: u32,
 }
 
-/// The product states that are reached, each with a number, and of each that isn't settled an entry in the queue.
+/// The product states that are reached, each with a number, and all ways that were taken to them. Of each whose arcs are to be
+/// explored there is an item in the queue.
 ///
-/// An entry stays in the queue where a better way is found later, and is passed over when it comes up.
+/// An item stays in the queue where a better way is found later, and is passed over when it comes up.
 #[derive(Drop)]
 pub(crate) struct Frontier {
-    pub rows: Rows,
+    /// The departure, from which delays are counted.
+    pub base: u64,
+    /// The delay from which on nothing is wanted; or the greatest one, where everything is.
+    pub until: u64,
+    pub rows: Vec<Row>,
+    /// Each goes on from one before it.
+    pub ways: Vec<Taken>,
     /// For each chain the number of its last row, and 1; or 0. Chains past its end have none.
     pub first: Vec<u32>,
     pub chains: Chains,
@@ -38,39 +42,64 @@ pub(crate) struct Frontier {
 }
 
 impl Frontier {
-    /// A frontier with nothing reached, with these chains, for times soon after the base. It uses the lists and the table of a
-    /// workspace.
-    pub fn new(alloc: Global, workspace: Workspace, chains: Chains, base: u64) -> Frontier
-        ensures right { IsQueueRight result }
-        ensures empty { (v q : ℕ) → reached_at result v q ≡ None }
+    /// A frontier with nothing reached, with these chains. It uses the lists, the table and the queue of a workspace.
+    pub fn new(workspace: Workspace, chains: Chains, base: u64, until: u64) -> Frontier
+        ensures right { IsFrontier result }
+        ensures base { result.base ≡ base }
+        ensures until { result.until ≡ until }
+        ensures no_rows { result.rows.items ≡ [] }
+        ensures no_ways { result.ways.items ≡ [] }
     {
         let Workspace {
-            entries,
-            keys,
+            rows,
+            ways,
             first,
+            queue,
         } = workspace;
         Frontier {
-            rows: Rows::new(alloc, base, keys, entries),
+            base,
+            until,
+            rows,
+            ways,
             first,
             chains,
-            queue: Queue::new(alloc, base),
+            queue,
         }
+    }
+
+    /// The time of a delay.
+    #[inline(always)]
+    pub fn time(&self, delay: u64) -> Time
+        ensures at { result ≡ self.now.base + delay }
+        ensures soon { delay < 2 ^ 64 }
+        ensures early { result < 2 ^ 127 }
+    {
+        Time::from(self.base) + Time::from(delay)
+    }
+
+    /// How long after the departure a time is, in ms, or the greatest number where it is longer.
+    #[inline(always)]
+    pub fn delay(&self, at: Time) -> u64
+        ensures { result ≡ delay_at self.now.base at }
+    {
+        let delay = at.saturating_sub(Time::from(self.base));
+        delay.min(Time::from(u64::MAX)) as u64
     }
 
     /// The number of a product state that is reached.
     #[inline(always)]
     fn find(&self, node: u32, state: u32) -> Option<u32>
-        requires { IsQueueRight self.now }
+        requires { IsFrontier self.now }
         ensures { MatchOption result (IsNowhere (rows self.now) node state)
             (IsAt (rows self.now) node state) }
     {
         let mut cursor = self.head(self.chains.place(node, state));
         'chain: while cursor != 0 {
-            let key = self.rows.key((cursor - 1) as usize);
-            if key.state == state {
+            let row = &self.rows[(cursor - 1) as usize];
+            if row.state == state {
                 return Some(cursor - 1);
             }
-            cursor = key.next;
+            cursor = row.next;
         }
         None
     }
@@ -86,79 +115,69 @@ impl Frontier {
         }
     }
 
-    /// Takes a way to a product state, if it is the first or better than the one that is known.
+    /// Takes a way to a product state, if that is wanted, and it is the first or better than the one that is known.
+    ///
+    /// Fails where memory runs out, where 2^32 - 1 product states are reached or ways taken, and where everything is wanted and
+    /// the way arrives 2^64 - 1 ms after the departure or later: half a billion years.
     #[inline(always)]
     pub fn offer(&mut self, node: u32, state: u32, way: Reached) -> Result<(), AllocError>
-        requires right { IsQueueRight self.old }
-        requires waits { way.settled ≡ false }
-        ensures right { OnOk result (IsQueueRight self.new) }
-        ensures offered { OnOk result (IsOffered self.old self.new node state way) }
+        requires { IsFrontier self.old }
+        ensures right { OnOk result (IsFrontier self.new) }
+        ensures offers { OnOk result (Offers self.old self.new (IsGiven node state way)) }
+        ensures reached { OnOk result ((t : ℕ) → self.new.base ≤ t → way.delay ≡ delay_at self.new.base t
+            → IsReachedIfWanted self.new node state t) }
     {
-        match NearWay::of(self.rows.base(), way) {
-            Some(near) => self.offer_by(node, state, way.at, Entry::Near(near)),
-            None => self.offer_wide(node, state, way),
+        if way.delay >= self.until {
+            return self.refuse();
         }
-    }
-
-    /// Takes a way that is not told in few bytes, if it is the first or better.
-    #[inline(never)]
-    fn offer_wide(&mut self, node: u32, state: u32, way: Reached) -> Result<(), AllocError>
-        requires right { IsQueueRight self.old }
-        requires waits { way.settled ≡ false }
-        ensures right { OnOk result (IsQueueRight self.new) }
-        ensures offered { OnOk result (IsOffered self.old self.new node state way) }
-    {
-        if self.has_as_good(node, state, way.at) {
-            return Ok(());
-        }
-        let entry = self.rows.put_wide(way)?;
-        self.offer_by(node, state, way.at, entry)
-    }
-
-    /// Whether a product state is settled, or reached no later than at a time.
-    fn has_as_good(&self, node: u32, state: u32, at: Time) -> bool
-        requires { IsQueueRight self.now }
-        ensures { IsTrue result → HasAsGood self.now node state at }
-    {
         match self.find(node, state) {
-            None => false,
-            Some(number) => !self.rows.waits_past(number as usize, at),
+            None => self.add(node, state, way),
+            Some(number) => self.improve(node, state, number, way),
         }
     }
 
-    /// Takes a way that arrives then, if it is the first or better. An entry tells it.
-    #[inline(always)]
-    fn offer_by(&mut self, node: u32, state: u32, at: Time, entry: Entry) -> Result<(), AllocError>
-        requires right { IsQueueRight self.old }
-        requires fits { FitsEntry self.old.rows.wide entry }
-        requires at { at ≡ (told self.old entry).at }
-        ensures right { OnOk result (IsQueueRight self.new) }
-        ensures offered { OnOk result (IsOffered self.old self.new node state (told self.old entry)) }
+    /// Passes over a way that arrives at the end of what is wanted or later. Fails where everything is wanted.
+    fn refuse(&self) -> Result<(), AllocError>
+        ensures { OnOk result (self.now.until ≢ 2 ^ 64 - 1) }
     {
-        match self.find(node, state) {
-            None => self.add(node, state, at, entry),
-            Some(number) => self.improve(node, state, number, at, entry),
+        if self.until == u64::MAX {
+            Err(AllocError)
+        } else {
+            Ok(())
         }
     }
 
     /// Takes the first way to a product state.
     #[inline(always)]
-    fn add(&mut self, node: u32, state: u32, at: Time, entry: Entry) -> Result<(), AllocError>
-        requires right { IsQueueRight self.old }
-        requires fits { FitsEntry self.old.rows.wide entry }
-        requires at { at ≡ (told self.old entry).at }
+    fn add(&mut self, node: u32, state: u32, way: Reached) -> Result<(), AllocError>
+        requires right { IsFrontier self.old }
+        requires soon { way.delay < 2 ^ 64 - 1 }
         requires nowhere { IsNowhere (rows self.old) node state }
-        ensures right { OnOk result (IsQueueRight self.new) }
-        ensures offered { OnOk result (IsOffered self.old self.new node state (told self.old entry)) }
+        ensures right { OnOk result (IsFrontier self.new) }
+        ensures offers { OnOk result (Offers self.old self.new (IsGiven node state way)) }
+        ensures reached { OnOk result (IsReachedBy self.new node state (self.new.base + way.delay)) }
     {
         let number = number_of(self.rows.len())?;
+        let link = number_of(self.ways.len())?;
         let chain = self.chains.place(node, state);
         let next = self.head(chain);
         grow(&mut self.first, chain)?;
-        self.rows.push(node, state, next, entry)?;
+        self.rows.push(Row {
+            node,
+            state,
+            next,
+            way: link,
+            delay: way.delay,
+        })?;
         self.first[chain] = number + 1;
-        wait(&mut self.queue, number, at, entry)?;
-        Ok(())
+        self.ways.push(taken_by(way, number))?;
+        self.queue.push(
+            way.delay,
+            Item {
+                row: number,
+                way: link,
+            },
+        )
     }
 
     /// Takes a way to a product state that is reached, if it is better.
@@ -168,82 +187,110 @@ impl Frontier {
         node: u32,
         state: u32,
         number: u32,
-        at: Time,
-        entry: Entry,
+        way: Reached,
     ) -> Result<(), AllocError>
-        requires right { IsQueueRight self.old }
-        requires fits { FitsEntry self.old.rows.wide entry }
-        requires at { at ≡ (told self.old entry).at }
+        requires right { IsFrontier self.old }
+        requires soon { way.delay < 2 ^ 64 - 1 }
         requires there { IsAt (rows self.old) node state number }
-        ensures right { OnOk result (IsQueueRight self.new) }
-        ensures offered { OnOk result (IsOffered self.old self.new node state (told self.old entry)) }
+        ensures right { OnOk result (IsFrontier self.new) }
+        ensures offers { OnOk result (Offers self.old self.new (IsGiven node state way)) }
+        ensures reached { OnOk result (IsReachedBy self.new node state (self.new.base + way.delay)) }
     {
-        if self.rows.is_later(number as usize, at, entry) {
-            self.rows.write(number as usize, entry);
-            wait(&mut self.queue, number, at, entry)?;
+        if self.rows[number as usize].delay <= way.delay {
+            return Ok(());
         }
-        Ok(())
+        let link = number_of(self.ways.len())?;
+        let row = &mut self.rows[number as usize];
+        row.way = link;
+        row.delay = way.delay;
+        self.ways.push(taken_by(way, number))?;
+        self.queue.push(
+            way.delay,
+            Item {
+                row: number,
+                way: link,
+            },
+        )
     }
 
-    /// How long after the base a time is, in ms, if that is less than 2^63.
+    /// Takes a product state from the queue that is wanted and waits since it was reached last.
     #[inline(always)]
-    pub fn delay(&self, at: Time) -> Option<u64>
-        ensures { IfSome result (λ delay. (self.now.rows.base + delay ≡ at) × (delay < 2 ^ 63)) }
+    pub fn take(&mut self) -> Result<Option<Scan>, AllocError>
+        requires { IsFrontier self.old }
+        ensures some { IfOk result (λ r. IfSome r (Takes self.old self.new)) }
+        ensures none { IfOk result (λ r. IfNone r (TakesNone self.old self.new)) }
     {
-        if at < 1 << 63 {
-            (at as u64).checked_sub(self.rows.base())
+        while let Some(item) = self.queue.pop(self.until)? {
+            if let Some(scan) = self.scan_of(item) {
+                return Ok(Some(scan));
+            }
+        }
+        Ok(None)
+    }
+
+    /// The product state of an item, if no better way to it was found since and it is wanted.
+    #[inline(always)]
+    fn scan_of(&self, item: Item) -> Option<Scan>
+        requires { IsFrontier self.now }
+        ensures some { IfSome result (IsScanOf self.now item) }
+        ensures none { IfNone result (IsPassedOver self.now item) }
+    {
+        let row = *self.rows.get(item.row as usize)?;
+        if row.way == item.way && row.delay < self.until {
+            Some(Scan {
+                node: row.node,
+                state: row.state,
+                delay: row.delay,
+                link: row.way + 1,
+            })
         } else {
             None
         }
     }
 
-    /// Whether a product state is reached by so long after the base. Its key tells, as no settled one is later.
-    #[inline(always)]
-    pub fn is_reached_by(&self, node: u32, state: u32, delay: u64) -> bool
-        requires right { IsQueueRight self.now }
-        requires settled { IsSettledBy self.now (self.now.rows.base + delay) }
-        requires early { delay < 2 ^ 64 - 1 }
-        ensures { IsTrue result ↔ IsReachedBy self.now node state (self.now.rows.base + delay) }
+    /// A delay that nothing waits for, and nothing before it.
+    pub fn floor(&self) -> u64
+        requires { IsFrontier self.now }
+        ensures { (k : ℕ) (r : Row) → Waits self.now k r → result ≤ r.delay }
     {
-        match self.find(node, state) {
-            None => false,
-            Some(number) => self.rows.is_by(number as usize, delay),
-        }
+        self.queue.floor()
     }
+}
 
-    /// Takes one with the least time from the queue, and settles it.
-    #[inline(always)]
-    pub fn settle_least(&mut self) -> Result<Option<Settled>, AllocError>
-        requires { IsQueueRight self.old }
-        ensures right { OnOk result (IsQueueRight self.new) }
-        ensures least { IfOk result (λ r. IfSome r (λ s. SettlesLeast self.old self.new s)) }
-        ensures none { IfOk result (λ r. IfNone r (NobodyWaits self.old)) }
-        ensures same { IfOk result (λ r. IfNone r (SameReached self.old self.new)) }
-        ensures numbers { IfOk result (λ r. IfNone r (KeepsNumbers self.old self.new)) }
-    {
-        while let Some((due, number)) = self.queue.pop()? {
-            if let Some(key) = self.rows.settle(number as usize, due) {
-                return Ok(Some(Settled {
-                    node: key.node,
-                    state: key.state,
-                    at: due.time(self.rows.base()),
-                    link: number + 1,
-                }));
-            }
-        }
-        Ok(None)
+/// A way to the product state of a row.
+#[inline(always)]
+fn taken_by(way: Reached, row: u32) -> Taken
+    ensures { result ≡ taken_as way row }
+{
+    Taken {
+        delay: way.delay,
+        arc: way.arc,
+        parent: way.parent,
+        row,
+    }
+}
+
+/// A count as a number of 32 bits. At 2^32 - 1 it fails as if memory had run out: a link, which is a number and 1, would not
+/// fit.
+pub(crate) fn number_of(count: usize) -> Result<u32, AllocError>
+    ensures count { IfOk result (λ n. n ≡ count) }
+    ensures small { IfOk result (λ n. n + 1 < 2 ^ 32) }
+{
+    if count < 0xffff_ffff {
+        Ok(count as u32)
+    } else {
+        Err(AllocError)
     }
 }
 
 /// A table as it was before there were rows.
-pub(crate) fn cleared(rows: &Rows, chains: Chains, first: Vec<u32>) -> Vec<u32>
-    requires { HasChainsFrom chains.count rows.now.rows first.items 0 }
+pub(crate) fn cleared(rows: &[Row], chains: Chains, first: Vec<u32>) -> Vec<u32>
+    requires { HasChainsFrom chains.count rows.now first.items 0 }
     ensures { IsClear result.items }
 {
     let mut first = first;
-    'clear: for k in 0..rows.len() {
-        let key = rows.key(k);
-        clear_at(&mut first, chains.place(key.node, key.state));
+    for row in rows {
+        clear_at(&mut first, chains.place(row.node, row.state));
     }
     first
 }
@@ -267,17 +314,4 @@ pub(crate) fn grow(first: &mut Vec<u32>, chain: usize) -> Result<(), AllocError>
         first.push(0)?;
     }
     Ok(())
-}
-
-/// Puts a number into a queue, with the time of a way that an entry tells.
-#[inline(always)]
-fn wait(queue: &mut Queue, number: u32, at: Time, entry: Entry) -> Result<(), AllocError>
-    requires right { IsQueue queue.old }
-    requires soon { TellsTime queue.old.base entry at }
-    ensures { OnOk result (TakesIn queue.old queue.new at number) }
-{
-    match entry {
-        Entry::Near(way) => queue.push_soon(way.delay, number),
-        Entry::Wide(_) => queue.push_at(at, number),
-    }
 }

@@ -2,12 +2,12 @@
 
 ghost use Rattle.std.specs.Prelude.{◌≡◌, ◌<◌, ◌≤◌, Some, IfSome, IfNone};
 ghost use Rattle.product_search.specs.declared.limit.Limited.TheVariants.{Ended};
-ghost use Rattle.product_search.specs.inside.Searching.{HasMoreSettled};
+ghost use Rattle.product_search.specs.inside.Searching.{HasMoreBefore};
+ghost use Rattle.product_search.specs.inside.Waiting.{IsFrontier};
 ghost use Rattle.product_search.specs.Limits.{HasEnded, StopsAreDue};
 
 use crate::frontier::Frontier;
 use crate::listing::count_labels;
-use search_laws::Time;
 
 /// What a search comes to that may be given up.
 #[derive(Drop)]
@@ -31,32 +31,26 @@ impl<T> Limited<T> {
     }
 }
 
-/// How many product states were settled before the time of the last one.
+/// How many product states were explored since the labels were counted last.
 #[derive(Clone, Copy)]
 pub(crate) struct Pace {
-    at: Time,
-    before: u64,
-    settled: u64,
+    explored: usize,
 }
 
 impl Pace {
-    /// Nothing is settled, and nothing will be before the departure.
-    pub fn new(dep: Time) -> Pace {
-        Pace {
-            at: dep,
-            before: 0,
-            settled: 0,
-        }
+    pub fn new() -> Pace {
+        Pace { explored: 0 }
     }
 
-    /// Counts one more, which is settled at a time no earlier than the others. Tells how many were settled before that time.
-    pub fn count(&mut self, at: Time) -> u64 {
-        if self.at < at {
-            self.at = at;
-            self.before = self.settled;
+    /// Counts one more. Tells whether the labels are to be counted, which takes as long as many of these: so where half as many
+    /// were explored as are reached.
+    pub fn is_due(&mut self, reached: usize) -> bool {
+        self.explored = self.explored.saturating_add(1);
+        if self.explored <= reached / 2 {
+            return false;
         }
-        self.settled = self.settled.saturating_add(1);
-        self.before
+        self.explored = 0;
+        true
     }
 }
 
@@ -71,19 +65,21 @@ pub(crate) fn passed(limit: Option<u64>, count: u64) -> Option<u64>
     }
 }
 
-/// The limit, if there is one and more than that is settled before a time, at which one more is settled. Only where the pace says
-/// so are the labels counted, and without a limit nothing is.
-pub(crate) fn passed_before(
-    limit: Option<u64>,
-    pace: &mut Pace,
-    frontier: &Frontier,
-    at: Time,
-) -> Option<u64>
-    ensures { IfSome result (λ most. (limit ≡ Some most) × HasMoreSettled frontier.now at most) }
+/// The limit, if there is one and more product states than that are reached before all that wait. It is looked for from time to
+/// time, and without a limit never.
+#[inline(always)]
+pub(crate) fn passed_before(limit: Option<u64>, pace: &mut Pace, frontier: &Frontier) -> Option<u64>
+    requires { IsFrontier frontier.now }
+    ensures { IfSome result (λ most. (limit ≡ Some most) × HasMoreBefore frontier.now most) }
 {
     limit?;
-    passed(limit, pace.count(at))?;
-    passed(limit, count_labels(frontier, Some(at)))
+    if !pace.is_due(frontier.rows.len()) {
+        return None;
+    }
+    passed(
+        limit,
+        count_labels(frontier, frontier.floor().min(frontier.until)),
+    )
 }
 
 /// A search has more labels than a limit exactly where the labels of its answer are more.

@@ -1,260 +1,302 @@
-//! The queue of those that wait: numbers by their times.
+//! The queue of the product states that wait: buckets of those whose times are near to each other.
 
-ghost use Rattle.std.specs.Prelude.{◌≡◌, ◌+◌, ◌<◌, [], Contains, IfOk, IfSome, IfNone, IsTrue, IsFalse, OnOk};
-ghost use Rattle.std.specs.BinaryHeap.{heap_len};
-ghost use Rattle.product_search.specs.inside.Queued.{queue_items, due_at, number_in, IsQueue, IsFarHeap, IsFilled, SameQueued, time_of};
-ghost use Rattle.product_search.specs.inside.Queued.{NearIsFirst, FarIsFirst, TakesIn, GivesLeast, GivesNone};
+ghost use Rattle.std.specs.Prelude.{◌≡◌, ◌≢◌, ◌+◌, ◌*◌, ◌^◌, ◌<◌, ◌≤◌, ℕ, [], All, Contains, IfOk, IfSome, IfNone, OnOk, length, map};
+ghost use Rattle.product_search.specs.inside.Queued.{Queued, AreBuckets, IsQueue, IsEmptyQueue, TakesIn, Gives, GivesNone, PutsAt, Moves, Turns, begin_of, bucket_of, bucketed_len};
 
-use crate::due::Due;
-use crate::item_heap::ItemHeap;
-use crate::queue_item::QueueItem;
-use search_laws::Time;
 use std::alloc::{AllocError, Global};
-use std::cmp::Reverse;
-use std::collections::BinaryHeap;
+use std::mem;
 
-/// Numbers by their times. Where few wait, all are in one heap. When it has come to [`MANY`], a horizon is set: from then on
-/// only those that are due by it go into the heap, which so stays small, and the others are in no order. When the heap has
-/// none left that is due by the horizon, this is moved on. Times less than 2^32 ms after the base, some fifty days, have
-/// items of one word.
-#[derive(Drop)]
-pub(crate) struct Queue {
-    /// The time that delays are counted from.
-    base: u64,
-    /// Those due by the horizon, and what was here before it came down.
-    pub near: ItemHeap,
-    /// The others, in no order. All are due after the horizon.
-    pub later: Vec<QueueItem>,
-    /// Those that come with a time: before the base or long after it, or by an arc past 2^32.
-    pub far: BinaryHeap<Reverse<(Time, u32)>>,
-    /// The word of the last item that is due by the horizon: the greatest one as long as few wait.
-    horizon: u64,
-    /// How far past the earliest of the others the horizon is moved, in words.
-    width: u64,
+/// What waits: the row of a product state, and the last way to it at the time when it began to wait.
+#[derive(Clone, Copy)]
+pub(crate) struct Item {
+    pub row: u32,
+    pub way: u32,
 }
 
-/// With so many in the heap, 32 KB, the horizon comes down. A processor keeps as much at hand, so that up to there it does not
-/// pay to put an item into the list first, from where it is moved again.
-const MANY: usize = 1 << 12;
+/// What waits for a bucket past the last one.
+#[derive(Clone, Copy)]
+pub(crate) struct LateItem {
+    pub delay: u64,
+    pub item: Item,
+}
 
-/// The first width, 2^16 ms, which is about a minute. With a few seconds the looks at all that wait cost what the small heap
-/// saves, and with a quarter of an hour the heap is larger again; in between it hardly matters.
-const FIRST_WIDTH: u64 = 1 << 48;
+/// How many buckets there are: those of the first round have nine hours together.
+const BUCKETS: u64 = 1 << 10;
+
+/// The first width of a bucket is 2^15 ms, half a minute. From 2^13 to 2^16 it hardly matters.
+const FIRST_BITS: u32 = 15;
+
+/// With buckets of 2^54 ms a round has all times.
+const MOST_BITS: u32 = 54;
+
+/// Items by their delays: those of a bucket are given out in the order in which they came, and those that come into the bucket in
+/// turn after the ones that were there. Delays past the last bucket wait for the next round of buckets, which begins with the
+/// least of them.
+#[derive(Drop)]
+pub(crate) struct Queue {
+    /// What is left of the bucket in turn as it was when its turn came, the first one last.
+    pub current: Vec<Item>,
+    /// What has come into each bucket. Those past the end have none.
+    pub buckets: Vec<Vec<Item>>,
+    /// The place of the bucket in turn. Those before it have none.
+    pub turn: usize,
+    /// The delay with which the first bucket begins, which also has all before.
+    pub start: u64,
+    /// A bucket has the delays of 2^bits ms.
+    pub bits: u32,
+    /// The same in the next round.
+    pub next_bits: u32,
+    /// What waits for a later round, in no order.
+    pub later: Vec<LateItem>,
+}
 
 impl Queue {
-    /// An empty queue, for times soon after the base.
-    pub fn new(alloc: Global, base: u64) -> Queue
+    /// An empty queue. Takes no memory.
+    pub fn new(alloc: Global) -> Queue
         ensures right { IsQueue result }
-        ensures base { result.base ≡ base }
+        ensures empty { IsEmptyQueue result }
     {
         Queue {
-            base,
-            near: ItemHeap::new(alloc),
+            current: Vec::new(alloc),
+            buckets: Vec::new(alloc),
+            turn: 0,
+            start: 0,
+            bits: FIRST_BITS,
+            next_bits: FIRST_BITS,
             later: Vec::new(alloc),
-            far: BinaryHeap::new(alloc),
-            horizon: u64::MAX,
-            width: FIRST_WIDTH,
         }
     }
 
-    /// Takes in a number that is due so long after the base, in ms.
-    #[inline(always)]
-    pub fn push_soon(&mut self, delay: u32, number: u32) -> Result<(), AllocError>
-        requires { IsQueue self.old }
-        ensures { OnOk result (TakesIn self.old self.new (self.old.base + delay) number) }
+    /// The same queue without its items.
+    pub fn cleared(self) -> Queue
+        requires { IsQueue self }
+        ensures right { IsQueue result }
+        ensures empty { IsEmptyQueue result }
     {
-        self.push_item(QueueItem::new(delay, number))
+        let Queue {
+            mut current,
+            mut buckets,
+            turn: _turn,
+            start: _start,
+            bits: _bits,
+            next_bits: _next_bits,
+            mut later,
+        } = self;
+        current.clear();
+        clear_all(&mut buckets);
+        later.clear();
+        Queue {
+            current,
+            buckets,
+            turn: 0,
+            start: 0,
+            bits: FIRST_BITS,
+            next_bits: FIRST_BITS,
+            later,
+        }
     }
 
-    /// Takes in a number that is due at any time.
-    #[inline(never)]
-    pub fn push_at(&mut self, at: Time, number: u32) -> Result<(), AllocError>
-        requires { IsQueue self.old }
-        ensures { OnOk result (TakesIn self.old self.new at number) }
-    {
-        self.far.push(Reverse((at, number)))?;
-        Ok(())
-    }
-
-    /// When an item is due.
+    /// Takes in an item that waits for a delay.
     #[inline(always)]
-    fn due(&self, item: QueueItem) -> Time
-        ensures { result ≡ due_at self.now.base item }
-    {
-        Time::from(self.base) + Time::from(item.delay())
-    }
-
-    /// Takes in an item.
-    #[inline(always)]
-    fn push_item(&mut self, item: QueueItem) -> Result<(), AllocError>
+    pub fn push(&mut self, delay: u64, item: Item) -> Result<(), AllocError>
         requires { IsQueue self.old }
-        ensures { OnOk result (TakesIn self.old self.new (due_at self.old.base item) (number_in item)) }
+        ensures { OnOk result (TakesIn self.old self.new delay item) }
     {
-        if item.word <= self.horizon {
-            self.near.push(item)?;
-            self.bring_down();
+        let place = self.place(delay);
+        if place < BUCKETS {
+            self.push_at(place as usize, item)
         } else {
-            self.later.push(item)?;
+            self.later.push(LateItem { delay, item })?;
+            Ok(())
+        }
+    }
+
+    /// The place of the bucket of a delay.
+    #[inline(always)]
+    fn place(&self, delay: u64) -> u64
+        requires { self.now.bits ≤ 54 }
+        ensures begins { begin_of self.now result ≤ delay }
+        ensures past { 2 ^ 10 ≤ result → self.now.start + 2 ^ 10 * 2 ^ self.now.bits ≤ delay }
+    {
+        delay.saturating_sub(self.start) >> self.bits
+    }
+
+    /// Puts an item into a bucket.
+    #[inline(always)]
+    fn push_at(&mut self, place: usize, item: Item) -> Result<(), AllocError>
+        requires right { AreBuckets self.old }
+        requires place { place < 2 ^ 10 }
+        ensures { OnOk result (PutsAt self.old self.new place item) }
+    {
+        grow(&mut self.buckets, place)?;
+        self.turn = self.turn.min(place);
+        self.buckets[place].push(item)?;
+        Ok(())
+    }
+
+    /// Gives out an item of the first bucket that has any, unless that begins at `until` or later.
+    #[inline(always)]
+    pub fn pop(&mut self, until: u64) -> Result<Option<Item>, AllocError>
+        requires { IsQueue self.old }
+        ensures some { IfOk result (λ r. IfSome r (Gives self.old self.new)) }
+        ensures none { IfOk result (λ r. IfNone r (GivesNone self.old self.new until)) }
+    {
+        if self.current.is_empty() {
+            self.next_bucket(until)?;
+        }
+        Ok(self.current.pop())
+    }
+
+    /// When the bucket in turn begins: nothing waits for a delay before that.
+    pub fn floor(&self) -> u64
+        requires { IsQueue self.now }
+        ensures { (t : ℕ) (x : Item) → Queued self.now t x → result ≤ t }
+    {
+        if self.turn == 0 {
+            0
+        } else {
+            self.start.saturating_add((self.turn as u64) << self.bits)
+        }
+    }
+
+    /// Has the turn come to the first bucket that has any, unless that begins at `until` or later.
+    #[inline(never)]
+    fn next_bucket(&mut self, until: u64) -> Result<(), AllocError>
+        requires right { IsQueue self.old }
+        requires empty { self.old.current.items ≡ [] }
+        ensures { OnOk result (Turns self.old self.new until) }
+    {
+        self.find_bucket()?;
+        if self.turn < self.buckets.len() && self.floor() < until {
+            mem::swap(&mut self.current, &mut self.buckets[self.turn]);
+            self.current.reverse();
         }
         Ok(())
     }
 
-    /// Where the heap has many, brings the horizon down to the width past their earliest. They all stay in the heap.
-    #[inline(always)]
-    fn bring_down(&mut self)
-        requires { IsQueue self.old }
-        ensures right { IsQueue self.new }
-        ensures base { self.new.base ≡ self.old.base }
-        ensures same { queue_items self.new ≡ queue_items self.old }
-    {
-        if self.near.len() < MANY {
-            return;
-        }
-        if let Some(top) = self.near.peek() {
-            let end = top.word.saturating_add(self.width);
-            self.horizon = self.horizon.min(end);
-        }
-    }
-
-    /// Gives out one with the least time.
-    #[inline(always)]
-    pub fn pop(&mut self) -> Result<Option<(Due, u32)>, AllocError>
-        requires { IsQueue self.old }
-        ensures some { IfOk result (λ r. IfSome r (λ x. GivesLeast self.old self.new (time_of self.old.base x.0)
-            x.1)) }
-        ensures none { IfOk result (λ r. IfNone r (GivesNone self.old self.new)) }
-    {
-        self.fill()?;
-        Ok(self.pop_first())
-    }
-
-    /// Moves the horizon on where the heap has none that is due by it, but others wait.
-    #[inline(always)]
-    fn fill(&mut self) -> Result<(), AllocError>
-        requires { IsQueue self.old }
+    /// Passes over the buckets that have none, into the next round where none has any.
+    fn find_bucket(&mut self) -> Result<(), AllocError>
+        requires right { IsQueue self.old }
+        requires empty { self.old.current.items ≡ [] }
         ensures right { OnOk result (IsQueue self.new) }
-        ensures same { OnOk result (SameQueued self.old self.new) }
-        ensures filled { OnOk result (IsFilled self.new) }
+        ensures moves { OnOk result (Moves self.old self.new) }
+        ensures some { OnOk result (self.new.turn < length self.new.buckets.items
+            → bucket_of self.new.buckets.items self.new.turn ≢ []) }
+        ensures none { OnOk result (length self.new.buckets.items ≤ self.new.turn → IsEmptyQueue self.new) }
     {
-        if self.is_filled() {
+        self.skip_empty();
+        if self.turn < self.buckets.len() || self.later.is_empty() {
             return Ok(());
         }
-        self.move_horizon()
+        self.next_round()?;
+        self.skip_empty();
+        Ok(())
     }
 
-    /// Whether there are no others, or the heap has one that is due by the horizon.
-    #[inline(always)]
-    fn is_filled(&self) -> bool
-        ensures { IsTrue result → IsFilled self.now }
+    /// Passes over the buckets that have none.
+    fn skip_empty(&mut self)
+        requires right { IsQueue self.old }
+        requires empty { self.old.current.items ≡ [] }
+        ensures right { IsQueue self.new }
+        ensures moves { Moves self.old self.new }
+        ensures start { self.new.start ≡ self.old.start }
+        ensures some { self.new.turn < length self.new.buckets.items
+            → bucket_of self.new.buckets.items self.new.turn ≢ [] }
     {
-        if self.later.is_empty() {
-            return true;
-        }
-        match self.near.peek() {
-            None => false,
-            Some(top) => top.word <= self.horizon,
+        'empty: while self.turn < self.buckets.len() && self.buckets[self.turn].is_empty() {
+            self.turn += 1;
         }
     }
 
-    /// Moves the horizon to the width past the earliest of the others, and puts those that are due by then into the heap.
-    fn move_horizon(&mut self) -> Result<(), AllocError>
-        requires { IsQueue self.old }
+    /// Begins a round of buckets at the least of the later delays.
+    fn next_round(&mut self) -> Result<(), AllocError>
+        requires right { IsQueue self.old }
+        requires empty { self.old.current.items ≡ [] }
+        requires none { (k : ℕ) → bucket_of self.old.buckets.items k ≡ [] }
+        requires some { self.old.later.items ≢ [] }
         ensures right { OnOk result (IsQueue self.new) }
-        ensures same { OnOk result (SameQueued self.old self.new) }
-        ensures filled { OnOk result (IsFilled self.new) }
+        ensures moves { OnOk result (Moves self.old self.new) }
+        ensures begins { OnOk result ((x : Item) × Queued self.new self.new.start x) }
     {
         let waiting = self.later.len();
-        let Some(first) = earliest(&self.later) else {
-            return Ok(());
-        };
-        self.horizon = first.word.saturating_add(self.width);
+        self.start = least_delay(&self.later);
+        self.bits = self.next_bits;
+        self.turn = 0;
         self.move_due()?;
-        self.width = self.next_width(waiting);
+        self.next_bits = bits_after(self.bits, waiting, self.later.len());
         Ok(())
     }
 
-    /// The width for the next time, after a look at so many that waited.
-    ///
-    /// It doubles where fewer than one in sixteen were due: else, with times far apart, there would be a look at all that wait
-    /// for each. After 16 times, at most, all items are due.
-    fn next_width(&self, waiting: usize) -> u64 {
-        if self.later.len() > waiting - waiting / 16 {
-            self.width.saturating_mul(2)
-        } else {
-            self.width
-        }
-    }
-
-    /// Puts into the heap those of the others that are due by the horizon.
+    /// Puts into buckets what has one in this round.
     fn move_due(&mut self) -> Result<(), AllocError>
-        requires { IsFarHeap self.old }
+        requires { AreBuckets self.old }
         ensures right { OnOk result (IsQueue self.new) }
-        ensures same { OnOk result (SameQueued self.old self.new) }
-        ensures horizon { OnOk result (self.new.horizon ≡ self.old.horizon) }
+        ensures moves { OnOk result (Moves self.old self.new) }
+        ensures start { OnOk result (self.new.start ≡ self.old.start) }
     {
         let mut i = 0;
         'due: while i < self.later.len() {
-            if self.horizon < self.later[i].word {
+            let late = self.later[i];
+            let place = self.place(late.delay);
+            if place < BUCKETS {
+                self.later.swap_remove(i);
+                self.push_at(place as usize, late.item)?;
+            } else {
                 i += 1;
-                continue;
             }
-            let item = self.later.swap_remove(i);
-            self.near.push(item)?;
         }
         Ok(())
     }
+}
 
-    /// Gives out one with the least time, where the queue is filled.
-    #[inline(always)]
-    fn pop_first(&mut self) -> Option<(Due, u32)>
-        requires right { IsQueue self.old }
-        requires filled { IsFilled self.old }
-        ensures some { IfSome result (λ x. GivesLeast self.old self.new (time_of self.old.base x.0) x.1) }
-        ensures none { IfNone result (GivesNone self.old self.new) }
-    {
-        if self.is_far_first() {
-            return self.pop_far();
-        }
-        let top = self.near.pop()?;
-        Some((Due::Soon(top.delay()), top.number()))
-    }
-
-    /// Gives out one with the least time of those that have no item, where it is before all in the heap of items.
-    #[inline(never)]
-    fn pop_far(&mut self) -> Option<(Due, u32)>
-        requires right { IsQueue self.old }
-        requires filled { IsFilled self.old }
-        requires first { FarIsFirst self.old }
-        ensures some { IfSome result (λ x. GivesLeast self.old self.new (time_of self.old.base x.0) x.1) }
-        ensures none { IfNone result (heap_len self.old.far ≡ 0) }
-    {
-        let (at, number) = self.far.pop()?.0;
-        Some((Due::At(at), number))
-    }
-
-    /// Whether those that have no item have one before all in the heap of items.
-    #[inline(always)]
-    fn is_far_first(&self) -> bool
-        requires { IsFarHeap self.now }
-        ensures near { IsFalse result → NearIsFirst self.now }
-        ensures far { IsTrue result → FarIsFirst self.now }
-        ensures some { IsTrue result → 0 < heap_len self.now.far }
-    {
-        let Some(far) = self.far.peek() else {
-            return false;
-        };
-        match self.near.peek() {
-            None => true,
-            Some(near) => far.0.0 < self.due(near),
-        }
+/// The width of the buckets of the next round. They are twice as wide after a round to which fewer than one in sixteen of those
+/// that waited came: else, with times far apart, there would be a look at all later ones for each.
+fn bits_after(bits: u32, waiting: usize, left: usize) -> u32
+    requires { bits ≤ 54 }
+    ensures { result ≤ 54 }
+{
+    if left > waiting - waiting / 16 {
+        MOST_BITS.min(bits + 1)
+    } else {
+        bits
     }
 }
 
-/// The earliest of some items.
-fn earliest(items: &[QueueItem]) -> Option<QueueItem>
-    ensures some { IfSome result (Contains items.now) }
-    ensures none { IfNone result (items.now ≡ []) }
+/// The least delay of some items, or the greatest of all where there are none.
+fn least_delay(items: &[LateItem]) -> u64
+    ensures there { items.now ≢ [] → Contains (map (λ x. x.delay) items.now) result }
+    ensures least { All (λ x. result ≤ x.delay) items.now }
 {
-    let first = items.iter().min_by_key(|item| item.word)?;
-    Some(*first)
+    items
+        .iter()
+        .map(|late| late.delay)
+        .min()
+        .unwrap_or(u64::MAX)
+}
+
+/// Makes buckets up to a place, if there are none.
+#[inline(always)]
+fn grow(buckets: &mut Vec<Vec<Item>>, place: usize) -> Result<(), AllocError>
+    requires few { length buckets.old.items ≤ 2 ^ 10 }
+    requires place { place < 2 ^ 10 }
+    ensures same { OnOk result ((k : ℕ) → bucket_of buckets.new.items k ≡ bucket_of buckets.old.items k) }
+    ensures as_many { OnOk result (bucketed_len buckets.new.items ≡ bucketed_len buckets.old.items) }
+    ensures few { OnOk result (length buckets.new.items ≤ 2 ^ 10) }
+    ensures long { OnOk result (place < length buckets.new.items) }
+{
+    let alloc = *buckets.allocator();
+    'grow: while buckets.len() <= place {
+        buckets.push(Vec::new(alloc))?;
+    }
+    Ok(())
+}
+
+/// Clears buckets.
+fn clear_all(buckets: &mut Vec<Vec<Item>>)
+    ensures none { (k : ℕ) → bucket_of buckets.new.items k ≡ [] }
+    ensures same { length buckets.new.items ≡ length buckets.old.items }
+{
+    for i in 0..buckets.len() {
+        buckets[i].clear();
+    }
 }

@@ -1,10 +1,9 @@
 //! The way back from an end to a start.
 
 ghost use Rattle.std.specs.Prelude.{IfOk, IfSome};
-ghost use Rattle.product_search.specs.inside.Waiting.{IsLink, IsQueueRight};
-ghost use Rattle.product_search.specs.inside.Trail.{HasParents, IsTrailIfAny, IsTrailTo};
+ghost use Rattle.product_search.specs.inside.Trail.{HasParents, IsTrailIfAny, IsTrailTo, IsWayTo};
 
-use crate::frontier::{Frontier, Settled};
+use crate::frontier::{Frontier, Scan};
 use crate::label::{Hop, Walk};
 use std::alloc::{AllocError, Global};
 
@@ -12,11 +11,10 @@ use std::alloc::{AllocError, Global};
 pub(crate) fn walk_to(
     alloc: Global,
     frontier: &Frontier,
-    end: Option<Settled>,
+    end: Option<Scan>,
 ) -> Result<Option<Walk>, AllocError>
-    requires right { IsQueueRight frontier.now }
     requires parents { HasParents frontier.now }
-    requires link { IfSome end (λ s. IsLink frontier.now s.node s.state s.link) }
+    requires link { IfSome end (λ s. IsWayTo frontier.now s.link) }
     ensures { IfOk result (IsTrailIfAny frontier.now end) }
 {
     match end {
@@ -26,29 +24,29 @@ pub(crate) fn walk_to(
 }
 
 /// The walk by which an end was reached.
-fn retrace(alloc: Global, frontier: &Frontier, end: Settled) -> Result<Walk, AllocError>
-    requires right { IsQueueRight frontier.now }
+fn retrace(alloc: Global, frontier: &Frontier, end: Scan) -> Result<Walk, AllocError>
     requires parents { HasParents frontier.now }
-    requires link { IsLink frontier.now end.node end.state end.link }
-    ensures { IfOk result (IsTrailTo frontier.now end.node end.state) }
+    requires link { IsWayTo frontier.now end.link }
+    ensures { IfOk result (IsTrailTo frontier.now end.link) }
 {
     let mut hops = Vec::new(alloc);
-    let mut row = frontier.rows.row((end.link - 1) as usize);
-    'back: while row.known.parent != 0 {
-        let hop = Hop {
-            arc: row.known.arc,
+    let mut way = frontier.ways[(end.link - 1) as usize];
+    'back: while way.parent != 0 {
+        let row = frontier.rows[way.row as usize];
+        hops.push(Hop {
+            arc: way.arc,
             to: row.node,
             state: row.state,
-            at: row.known.at,
-        };
-        hops.push(hop)?;
-        row = frontier.rows.row((row.known.parent - 1) as usize);
+            at: frontier.time(way.delay),
+        })?;
+        way = frontier.ways[(way.parent - 1) as usize];
     }
     hops.reverse();
+    let row = frontier.rows[way.row as usize];
     Ok(Walk {
         node: row.node,
         state: row.state,
-        at: row.known.at,
+        at: frontier.time(way.delay),
         hops,
     })
 }

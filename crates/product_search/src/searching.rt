@@ -4,15 +4,15 @@ ghost use Rattle.std.specs.Prelude.{◌≡◌, ◌≤◌, IfOk, IfSome, None, So
 ghost use Rattle.product_search.specs.Answer.{IsByLastTime, last_time};
 ghost use Rattle.product_search.specs.Questions.{question_of, FindsArrival, FindsWalk, ListsLabels, CountsLabels, ListsClosed, HasMore};
 ghost use Rattle.product_search.specs.Limits.{IfEnded, IfStopped};
-ghost use Rattle.product_search.specs.inside.Searching.{IsSettlementWithin};
+ghost use Rattle.product_search.specs.inside.Searching.{IsAnsweredWithin};
 
+use crate::correcting::{Explored, arrival_of, explore_all};
 use crate::frontier::Frontier;
 use crate::label::{Best, Found, FoundWithCount};
 use crate::limit::{Limited, passed};
 use crate::listing::{count_labels, list_labels};
 use crate::question::Question;
 use crate::retrace::walk_to;
-use crate::settling::{Explored, arrival_of, settle_all};
 use crate::workspace::Workspace;
 use search_laws::{Graph, Labels};
 use std::alloc::{AllocError, Global};
@@ -22,9 +22,11 @@ use std::alloc::{AllocError, Global};
 /// A walk leaves its start in a start state and may wait anywhere. The answer has the arrival, a walk without waits that has it, and the least arrivals of all
 /// product states that are reached before, or where no walk counts, of all that are reached within the bound.
 /// Without a bound the labels are closed, as `check_labels` looks for it. No time in the answer is above `dep + 2^98`.
-/// Fails where memory runs out, and where 2^32 - 1 product states are reached.
+/// Fails where memory runs out, where 2^32 - 1 product states are reached or ways taken to them, and where without a bound a
+/// time would be 2^64 - 1 ms after the departure or later.
 ///
-/// The method is Dijkstra's, over pairs of a node and a state, as Barrett, Jacob and Marathe use it for languages.
+/// The search goes over pairs of a node and a state, as Barrett, Jacob and Marathe do for languages. Their labels are corrected:
+/// it explores the arcs of all that are reached within half a minute in any order, and again where a better way is found.
 pub fn search<G: Graph, L: Labels>(
     alloc: Global,
     question: &Question<'_, G, L>,
@@ -40,8 +42,8 @@ pub fn search<G: Graph, L: Labels>(
     Ok(found.into_answer())
 }
 
-/// The same as [`search`], but given up where there are more labels than the limit, if there is one, and there alone. A
-/// search that is given up has settled at most one more than the limit, and those of equal time.
+/// The same as [`search`], but given up where there are more labels than the limit, if there is one, and there alone. That is
+/// looked for again and again, each time when it has explored half as many product states as it has reached.
 pub fn search_within<G: Graph, L: Labels>(
     alloc: Global,
     question: &Question<'_, G, L>,
@@ -58,13 +60,13 @@ pub fn search_within<G: Graph, L: Labels>(
         (λ most. (limit ≡ Some most) × HasMore (question_of question.now) most) }
 {
     let workspace = Workspace::new(alloc);
-    let settled = settle(alloc, workspace, question, limit)?;
-    let Settlement { frontier, best } = settled;
+    let answered = answer(alloc, workspace, question, limit)?;
+    let Answered { frontier, best } = answered;
     let best = match best {
         Limited::Ended(best) => best,
         Limited::Stopped(most) => return Ok(Limited::Stopped(most)),
     };
-    let labels = list_labels(alloc, &frontier, best.arrival)?;
+    let labels = list_labels(alloc, &frontier, frontier.until)?;
     if let Some(most) = passed(limit, labels.len() as u64) {
         return Ok(Limited::Stopped(most));
     }
@@ -92,8 +94,8 @@ pub fn search_counted_within<G: Graph, L: Labels>(
         (λ most. (limit ≡ Some most) × HasMore (question_of question.now) most) }
 {
     let kept = workspace.take(alloc);
-    let settled = settle(alloc, kept, question, limit)?;
-    let Settlement { frontier, best } = settled;
+    let answered = answer(alloc, kept, question, limit)?;
+    let Answered { frontier, best } = answered;
     let best = match best {
         Limited::Ended(best) => best,
         Limited::Stopped(most) => {
@@ -101,7 +103,7 @@ pub fn search_counted_within<G: Graph, L: Labels>(
             return Ok(Limited::Stopped(most));
         }
     };
-    let labels = count_labels(&frontier, best.arrival);
+    let labels = count_labels(&frontier, frontier.until);
     workspace.put(frontier);
     if let Some(most) = passed(limit, labels) {
         return Ok(Limited::Stopped(most));
@@ -125,40 +127,40 @@ pub fn search_best_with<G: Graph, L: Labels>(
     ensures time { IfOk result (λ f. IfSome f.arrival (λ t. t ≤ last_time question.now.dep)) }
 {
     let kept = workspace.take(alloc);
-    let settled = settle(alloc, kept, question, None)?;
-    let Settlement { frontier, best } = settled;
+    let answered = answer(alloc, kept, question, None)?;
+    let Answered { frontier, best } = answered;
     workspace.put(frontier);
     Ok(best.into_answer())
 }
 
-/// What a search has settled, and the best that it came to, unless it was given up.
+/// What a search has reached, and the best that it came to, unless it was given up.
 #[derive(Drop)]
-pub(crate) struct Settlement {
+pub(crate) struct Answered {
     pub frontier: Frontier,
     pub best: Limited<Best>,
 }
 
-/// Settles product states up to the first end, and tells its arrival and the walk to it, or is given up on the way.
-fn settle<G: Graph, L: Labels>(
+/// Explores product states up to the best end, and tells its arrival and the walk to it, or is given up on the way.
+fn answer<G: Graph, L: Labels>(
     alloc: Global,
     workspace: Workspace,
     question: &Question<'_, G, L>,
     limit: Option<u64>,
-) -> Result<Settlement, AllocError>
-    ensures { IfOk result (λ s. IsSettlementWithin (question_of question.now) limit s.frontier s.best) }
+) -> Result<Answered, AllocError>
+    ensures { IfOk result (λ a. IsAnsweredWithin (question_of question.now) limit a.frontier a.best) }
 {
-    let explored = settle_all(alloc, workspace, question, limit)?;
+    let explored = explore_all(alloc, workspace, question, limit)?;
     let Explored { frontier, end } = explored;
     match end {
         Limited::Ended(end) => {
-            let arrival = arrival_of(end);
+            let arrival = arrival_of(&frontier, end);
             let walk = walk_to(alloc, &frontier, end)?;
-            Ok(Settlement {
+            Ok(Answered {
                 frontier,
                 best: Limited::Ended(Best { arrival, walk }),
             })
         }
-        Limited::Stopped(most) => Ok(Settlement {
+        Limited::Stopped(most) => Ok(Answered {
             frontier,
             best: Limited::Stopped(most),
         }),

@@ -1,12 +1,12 @@
 //! The product states from which walks may leave, offered to the frontier.
 
-ghost use Rattle.std.specs.Prelude.{◌≡◌, ℕ, ◌<◌, length, slice_index, Contains, OnOk, IsTrue};
-ghost use Rattle.product_search.specs.inside.Waiting.{IsQueueRight};
-ghost use Rattle.product_search.specs.inside.Exploring.{IsSettledBy, Offers, IsStartAt, IsStartAmong, StartIsReached, IsReachedBy};
+ghost use Rattle.std.specs.Prelude.{◌≡◌, ℕ, ◌<◌, length, slice_index, OnOk, IsTrue};
+ghost use Rattle.product_search.specs.inside.Waiting.{IsFrontier, IsReachedBy};
+ghost use Rattle.product_search.specs.inside.Exploring.{Offers, IsStartAt, IsStartAmong, StartIsReached};
 
 use crate::frontier::Frontier;
 use crate::row::Reached;
-use search_laws::{Labels, Time};
+use search_laws::Labels;
 use std::alloc::AllocError;
 
 /// Offers each start in each start state, at the departure.
@@ -14,38 +14,32 @@ pub(crate) fn offer_starts<L: Labels>(
     frontier: &mut Frontier,
     labels: &L,
     starts: &[u32],
-    dep: Time,
 ) -> Result<(), AllocError>
-    requires right { IsQueueRight frontier.old }
-    requires settled { IsSettledBy frontier.old dep }
-    ensures right { OnOk result (IsQueueRight frontier.new) }
+    requires right { IsFrontier frontier.old }
+    requires wanted { 0 < frontier.old.until }
+    ensures right { OnOk result (IsFrontier frontier.new) }
     ensures offers { OnOk result (Offers frontier.old frontier.new
-        (IsStartAmong (L.automaton labels.now) starts.now dep)) }
+        (IsStartAmong (L.automaton labels.now) starts.now)) }
     ensures reached { OnOk result ((k : ℕ) → k < length starts.now
-        → StartIsReached frontier.new (L.automaton labels.now) dep (slice_index starts.now k)) }
+        → StartIsReached frontier.new (L.automaton labels.now) (slice_index starts.now k)) }
 {
     for node in starts {
-        offer_start(frontier, labels, *node, dep)?;
+        offer_start(frontier, labels, *node)?;
     }
     Ok(())
 }
 
 /// Offers one start in each start state.
-fn offer_start<L: Labels>(
-    frontier: &mut Frontier,
-    labels: &L,
-    node: u32,
-    dep: Time,
-) -> Result<(), AllocError>
-    requires right { IsQueueRight frontier.old }
-    requires settled { IsSettledBy frontier.old dep }
-    ensures right { OnOk result (IsQueueRight frontier.new) }
+fn offer_start<L: Labels>(frontier: &mut Frontier, labels: &L, node: u32) -> Result<(), AllocError>
+    requires right { IsFrontier frontier.old }
+    requires wanted { 0 < frontier.old.until }
+    ensures right { OnOk result (IsFrontier frontier.new) }
     ensures offers { OnOk result (Offers frontier.old frontier.new
-        (IsStartAt (L.automaton labels.now) node dep)) }
-    ensures reached { OnOk result (StartIsReached frontier.new (L.automaton labels.now) dep node) }
+        (IsStartAt (L.automaton labels.now) node)) }
+    ensures reached { OnOk result (StartIsReached frontier.new (L.automaton labels.now) node) }
 {
     for state in 0..labels.states() {
-        offer_start_state(frontier, labels, node, state, dep)?;
+        offer_start_state(frontier, labels, node, state)?;
     }
     Ok(())
 }
@@ -56,25 +50,23 @@ fn offer_start_state<L: Labels>(
     labels: &L,
     node: u32,
     state: u32,
-    dep: Time,
 ) -> Result<(), AllocError>
     requires state { state < (L.automaton labels.now).states }
-    requires right { IsQueueRight frontier.old }
-    requires settled { IsSettledBy frontier.old dep }
-    ensures right { OnOk result (IsQueueRight frontier.new) }
+    requires right { IsFrontier frontier.old }
+    requires wanted { 0 < frontier.old.until }
+    ensures right { OnOk result (IsFrontier frontier.new) }
     ensures offers { OnOk result (Offers frontier.old frontier.new
-        (IsStartAt (L.automaton labels.now) node dep)) }
+        (IsStartAt (L.automaton labels.now) node)) }
     ensures reached { OnOk result (IsTrue ((L.automaton labels.now).is_start state)
-        → IsReachedBy frontier.new node state dep) }
+        → IsReachedBy frontier.new node state frontier.new.base) }
 {
-    if labels.is_start(state) {
-        let way = Reached {
-            at: dep,
-            parent: 0,
-            arc: 0,
-            settled: false,
-        };
-        frontier.offer(node, state, way)?;
+    if !labels.is_start(state) {
+        return Ok(());
     }
-    Ok(())
+    let way = Reached {
+        delay: 0,
+        arc: 0,
+        parent: 0,
+    };
+    frontier.offer(node, state, way)
 }

@@ -1,11 +1,10 @@
 //! The targets of a search for many arrivals, and when each is reached.
 
 ghost use Rattle.std.specs.Prelude.{◌≡◌, ◌<◌, ◌≤◌, length, slice_index, IfOk, IsTrue, None, replicate};
-ghost use Rattle.product_search.specs.inside.Places.{ArePlaces};
-ghost use Rattle.product_search.specs.inside.Noting.{IsNoted, IsEndNoted, AreReached, time_of, first_time};
+ghost use Rattle.product_search.specs.inside.Places.{ArePlaces, IsPlaced};
+ghost use Rattle.product_search.specs.inside.Noting.{IsNoted, IsEndNoted, AreReached, time_of, earlier};
 
-use crate::frontier::{Settled, grow};
-use crate::rows::number_of;
+use crate::frontier::{Frontier, Scan, grow, number_of};
 use search_laws::{Labels, Time};
 use std::alloc::{AllocError, Global};
 
@@ -67,6 +66,8 @@ fn places_of(alloc: Global, nodes: &[u32]) -> Result<Vec<u32>, AllocError>
 pub(crate) struct Noted {
     pub times: Vec<Option<Time>>,
     pub passed: usize,
+    /// No target was reached later, in ms after the departure.
+    pub latest: u64,
 }
 
 impl Noted {
@@ -76,48 +77,55 @@ impl Noted {
         ensures passed { IfOk result (λ n. n.passed ≡ 0) }
     {
         let times = vec![in alloc; None; targets.nodes.len()]?;
-        Ok(Noted { times, passed: 0 })
+        Ok(Noted {
+            times,
+            passed: 0,
+            latest: 0,
+        })
     }
 
-    /// Notes a target that is settled in an accepting state, if it was not reached before, and tells whether all are reached.
+    /// Notes a target that is reached in an accepting state, if it was not reached by then, and tells whether all are reached.
     #[inline(always)]
     pub fn note_end<L: Labels>(
         &mut self,
         labels: &L,
         targets: &TargetTable,
-        settled: Settled,
+        frontier: &Frontier,
+        scan: Scan,
     ) -> bool
-        requires state { settled.state < (L.automaton labels.now).states }
+        requires state { scan.state < (L.automaton labels.now).states }
         requires one_each { length self.old.times.items ≡ length targets.now.nodes.items }
         requires passed { AreReached targets.now.nodes.items targets.now.places.items self.old.times.items
             self.old.passed }
         ensures one_each { length self.new.times.items ≡ length targets.now.nodes.items }
         ensures passed { AreReached targets.now.nodes.items targets.now.places.items self.new.times.items
             self.new.passed }
-        ensures noted { IsEndNoted (L.automaton labels.now) targets.now.places.items self.old.times.items
-            self.new.times.items settled }
+        ensures noted { IsEndNoted (L.automaton labels.now) targets.now.places.items frontier.now.base self.old
+            self.new scan }
         ensures all { IsTrue result → length targets.now.nodes.items ≤ self.new.passed }
     {
-        if !labels.accepts(settled.state) {
-            return false;
+        if labels.accepts(scan.state) {
+            self.note(targets, scan.node, frontier.time(scan.delay), scan.delay);
+            self.pass(targets);
         }
-        self.note(targets, settled.node, settled.at);
-        self.pass(targets);
         self.passed >= targets.nodes.len()
     }
 
-    /// Notes when a node is reached, if it is a target and was not reached before.
+    /// Notes when a node is reached, if it is a target and was not reached by then. The time is that of the delay.
     #[inline(always)]
-    fn note(&mut self, targets: &TargetTable, node: u32, at: Time)
+    fn note(&mut self, targets: &TargetTable, node: u32, at: Time, delay: u64)
         requires { length self.old.times.items ≡ length targets.now.nodes.items }
         ensures noted { IsNoted targets.now.places.items self.old.times.items self.new.times.items node at }
         ensures one_each { length self.new.times.items ≡ length targets.now.nodes.items }
         ensures passed { self.new.passed ≡ self.old.passed }
+        ensures latest { self.old.latest ≤ self.new.latest }
+        ensures late { IsPlaced targets.now.places.items node → delay ≤ self.new.latest }
     {
         let place = targets.place(node);
         if place > 0 {
-            let time = first_time(self.times[place - 1], at);
+            let time = earlier(self.times[place - 1], at);
             self.times[place - 1] = Some(time);
+            self.latest = self.latest.max(delay);
         }
     }
 
@@ -129,6 +137,7 @@ impl Noted {
         ensures passed { AreReached targets.now.nodes.items targets.now.places.items self.new.times.items
             self.new.passed }
         ensures same { self.new.times.items ≡ self.old.times.items }
+        ensures latest { self.new.latest ≡ self.old.latest }
     {
         'pass: while self.passed < targets.nodes.len() {
             match self.time_of(targets, targets.nodes[self.passed]) {
@@ -151,12 +160,12 @@ impl Noted {
     }
 }
 
-/// The time that was noted first.
-fn first_time(noted: Option<Time>, at: Time) -> Time
-    ensures { result ≡ first_time noted at }
+/// The earlier one of a time that was noted, if one was, and another.
+fn earlier(noted: Option<Time>, at: Time) -> Time
+    ensures { result ≡ earlier noted at }
 {
     match noted {
         None => at,
-        Some(first) => first,
+        Some(first) => first.min(at),
     }
 }

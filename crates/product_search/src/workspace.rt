@@ -1,37 +1,42 @@
 //! What searches keep for the next one.
 
 ghost use Rattle.std.specs.Prelude.{◌≡◌, []};
-ghost use Rattle.product_search.specs.inside.Waiting.{IsClear, IsQueueRight};
+ghost use Rattle.product_search.specs.inside.Queued.{IsQueue, IsEmptyQueue};
+ghost use Rattle.product_search.specs.inside.Waiting.{IsClear, IsFrontier};
 
-use crate::entry::Entry;
 use crate::frontier::{Frontier, cleared};
-use crate::key::Key;
+use crate::queue::Queue;
+use crate::row::{Row, Taken};
 use std::alloc::Global;
 use std::mem;
 
-/// Two lists and a table by chain that searches use again. They are empty, and have room for what was reached so far.
+/// Two lists, a table by chain and a queue that searches use again. They are empty, and have room for what was reached so far.
 #[derive(Drop)]
 pub struct Workspace {
-    pub(crate) entries: Vec<Entry>,
-    pub(crate) keys: Vec<Key>,
+    pub(crate) rows: Vec<Row>,
+    pub(crate) ways: Vec<Taken>,
     pub(crate) first: Vec<u32>,
-    ghost empty: { entries.items ≡ [] },
-    ghost keyless: { keys.items ≡ [] },
+    pub(crate) queue: Queue,
+    ghost no_rows: { rows.items ≡ [] },
+    ghost no_ways: { ways.items ≡ [] },
     ghost clear: { IsClear first.items },
+    ghost right: { IsQueue queue },
+    ghost empty: { IsEmptyQueue queue },
 }
 
 impl Workspace {
     pub fn new(alloc: Global) -> Workspace {
         Workspace {
-            entries: Vec::new(alloc),
-            keys: Vec::new(alloc),
+            rows: Vec::new(alloc),
+            ways: Vec::new(alloc),
             first: Vec::new(alloc),
+            queue: Queue::new(alloc),
         }
     }
 
     /// Where it takes memory.
     pub(crate) fn allocator(&self) -> Global {
-        *self.entries.allocator()
+        *self.rows.allocator()
     }
 
     /// Gives out what it has. Until that is put back the next search makes it anew.
@@ -39,22 +44,27 @@ impl Workspace {
         mem::replace(self, Workspace::new(alloc))
     }
 
-    /// Puts back the lists and the table of a search.
+    /// Puts back the lists, the table and the queue of a search.
     pub(crate) fn put(&mut self, frontier: Frontier)
-        requires { IsQueueRight frontier }
+        requires { IsFrontier frontier }
     {
         let Frontier {
-            rows,
+            base: _base,
+            until: _until,
+            mut rows,
+            mut ways,
             first,
             chains,
-            queue: _queue,
+            queue,
         } = frontier;
         let first = cleared(&rows, chains, first);
-        let (keys, entries) = rows.into_lists();
+        rows.clear();
+        ways.clear();
         *self = Workspace {
-            entries,
-            keys,
+            rows,
+            ways,
             first,
+            queue: queue.cleared(),
         };
     }
 }

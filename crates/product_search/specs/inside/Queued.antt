@@ -1,102 +1,112 @@
 -- What the queue of a frontier holds.
-use Rattle.std.specs.Prelude.{◌≡◌, ℕ, ◌+◌, ◌/◌, ◌%◌, ◌^◌, ◌<◌, ◌≤◌, ◌⊎◌, List, [], ◌++◌, map, All, Contains, IsPermutation, length}
-use Rattle.std.specs.declared.cmp.Ordering.{Ordering}
-use Rattle.std.specs.Ordering.{ordering_then, nat_cmp}
-use Rattle.std.specs.BinaryHeap.{heap_items, IsHeap}
-use Rattle.std.specs.declared.cmp.Reverse.{Reverse}
-use Rattle.product_search.specs.declared.due.Due.{Due}
-use Rattle.product_search.specs.declared.due.Due.TheVariants.{Soon, At}
-use Rattle.product_search.specs.declared.queue_item.QueueItem.{QueueItem}
+use Rattle.std.specs.Prelude.{◌≡◌, ℕ, zero, suc, ◌+◌, ◌*◌, ◌^◌, ◌<◌, ◌≤◌, ◌⊎◌, List, [], ◌∷◌, All, Contains, length, sum_by, Vec}
+use Rattle.std.specs.declared.alloc.Global.{Global}
+use Rattle.product_search.specs.declared.queue.Item.{Item}
+use Rattle.product_search.specs.declared.queue.LateItem.{LateItem}
 use Rattle.product_search.specs.declared.queue.Queue.{Queue}
 
--- an entry: of two the earlier is the greater, so a heap gives the earliest first
-abbrev pub entry_of : ℕ → ℕ → Reverse (ℕ × ℕ)
-entry_of t k = record { 0 = (t, k) }
+-- the delay with which the bucket at a place begins: the first one has all that is before the second
+abbrev pub begin_at : ℕ → ℕ → ℕ → ℕ
+begin_at start bits zero = 0
+begin_at start bits (suc k) = start + suc k * 2 ^ bits
 
-abbrev pub queue_cmp : Reverse (ℕ × ℕ) → Reverse (ℕ × ℕ) → Ordering
-queue_cmp x y = ordering_then (nat_cmp y.0.0 x.0.0) (nat_cmp y.0.1 x.0.1)
+abbrev pub begin_of : Queue → ℕ → ℕ
+begin_of q k = begin_at q.start q.bits k
 
--- ---- items of one word
+-- what the bucket at a place has: those past the end have none
+abbrev pub bucket_of : List (Vec Item Global) → ℕ → List Item
+bucket_of [] k = []
+bucket_of (b ∷ bs) zero = b.items
+bucket_of (b ∷ bs) (suc k) = bucket_of bs k
 
--- the low 32 bits are the number of what waits
-abbrev pub number_in : QueueItem → ℕ
-number_in x = x.word % 2 ^ 32
+-- ---- where it waits for the delay t, or longer: each bucket has delays from its begin on
 
--- and those above say how long after the base it is due
-abbrev pub delay_in : QueueItem → ℕ
-delay_in x = x.word / 2 ^ 32
+-- in what is left of the bucket in turn
+abbrev pub IsInTurn : Queue → ℕ → Item → Type 0
+IsInTurn q t x = Contains q.current.items x × (begin_of q q.turn ≤ t)
 
--- when it is due
-abbrev pub due_at : ℕ → QueueItem → ℕ
-due_at base x = base + delay_in x
+-- in a bucket
+abbrev pub IsBucketed : Queue → ℕ → Item → Type 0
+IsBucketed q t x = (k : ℕ) × Contains (bucket_of q.buckets.items k) x × (begin_of q k ≤ t)
 
--- the item as an entry
-abbrev pub entry_by : ℕ → QueueItem → Reverse (ℕ × ℕ)
-entry_by base x = entry_of (due_at base x) (number_in x)
+-- among those of a later round
+abbrev pub IsLater : Queue → ℕ → Item → Type 0
+IsLater q t x = (d : ℕ) × Contains q.later.items (record { delay = d; item = x }) × (d ≤ t)
 
--- when something is due
-abbrev pub time_of : ℕ → Due → ℕ
-time_of base (Soon delay) = base + delay
-time_of base (At t) = t
+-- the item is in the queue, at a place for no later delay than t
+abbrev pub Queued : Queue → ℕ → Item → Type 0
+Queued q t x = IsInTurn q t x ⊎ IsBucketed q t x ⊎ IsLater q t x
+
+-- ---- how many
+
+abbrev pub bucketed_len : List (Vec Item Global) → ℕ
+bucketed_len bs = sum_by (λ b. length b.items) bs
+
+abbrev pub queue_len : Queue → ℕ
+queue_len q = length q.current.items + bucketed_len q.buckets.items + length q.later.items
 
 -- ---- queues
 
--- all items of one word that wait
-abbrev pub word_items : Queue → List QueueItem
-word_items q = q.near ++ q.later.items
+-- the buckets are few and not too wide, and those before the one in turn have none
+pub record AreBuckets (q : Queue) : Type 0 where
+  pub narrow : q.bits ≤ 54
+  pub narrow_next : q.next_bits ≤ 54
+  pub few : length q.buckets.items ≤ 2 ^ 10
+  pub in_round : q.turn ≤ 2 ^ 10
+  pub passed : (k : ℕ) → k < q.turn → bucket_of q.buckets.items k ≡ []
 
--- all that wait
-abbrev pub queue_items : Queue → List (Reverse (ℕ × ℕ))
-queue_items q = map (entry_by q.base) (word_items q) ++ heap_items q.far
+-- it is past the last bucket of the round
+abbrev pub IsPast : Queue → LateItem → Type 0
+IsPast q x = q.start + 2 ^ 10 * 2 ^ q.bits ≤ x.delay
 
--- the number k is in the queue with the time t
-abbrev pub Queued : Queue → ℕ → ℕ → Type 0
-Queued q t k = Contains (queue_items q) (entry_of t k)
-
-abbrev pub queue_len : Queue → ℕ
-queue_len q = length (queue_items q)
-
-abbrev pub IsFarHeap : Queue → Type 0
-IsFarHeap q = IsHeap queue_cmp (heap_items q.far)
-
--- those of other times are a heap, and the later ones are due after the horizon
+-- what waits for a later round does so for delays past this one
 pub record IsQueue (q : Queue) : Type 0 where
-  pub far : IsFarHeap q
-  pub after : All (λ x. q.horizon < x.word) q.later.items
+  pub right : AreBuckets q
+  pub later : All (IsPast q) q.later.items
 
--- none is later, or one that is near is due by the horizon
-abbrev pub IsFilled : Queue → Type 0
-IsFilled q = (q.later.items ≡ []) ⊎ ((x : QueueItem) × (x.word ≤ q.horizon) × Contains q.near x)
+abbrev pub IsEmptyQueue : Queue → Type 0
+IsEmptyQueue q = (t : ℕ) (x : Item) → Queued q t x → ⊥
 
--- what is no later than all that are near is no later than all that are far
-abbrev pub NearIsFirst : Queue → Type 0
-NearIsFirst q = (t : ℕ) → All (λ x. t ≤ due_at q.base x) q.near → All (λ y. t ≤ y.0.0) (heap_items q.far)
+-- ---- from one to the next
 
--- what is no later than all that are far is no later than all that are near
-abbrev pub FarIsFirst : Queue → Type 0
-FarIsFirst q = (t : ℕ) → All (λ y. t ≤ y.0.0) (heap_items q.far) → All (λ x. t ≤ due_at q.base x) q.near
-
--- new has what old has
-pub record SameQueued (old new : Queue) : Type 0 where
-  pub base : new.base ≡ old.base
-  pub words : IsPermutation (word_items old) (word_items new)
-  pub far : heap_items new.far ≡ heap_items old.far
-
-pub record TakesIn (old new : Queue) (t k : ℕ) : Type 0 where
-  pub base : new.base ≡ old.base
+-- x is taken in, to wait for the delay t
+pub record TakesIn (old new : Queue) (t : ℕ) (x : Item) : Type 0 where
   pub right : IsQueue new
-  pub stays : (u j : ℕ) → Queued old u j → Queued new u j
-  pub there : Queued new t k
+  pub stays : (u : ℕ) (y : Item) → Queued old u y → Queued new u y
+  pub there : Queued new t x
+  pub more : queue_len new ≡ queue_len old + 1
 
--- k is given out, at the least time
-pub record GivesLeast (old new : Queue) (t k : ℕ) : Type 0 where
-  pub base : new.base ≡ old.base
+-- x is given out
+pub record Gives (old new : Queue) (x : Item) : Type 0 where
   pub right : IsQueue new
-  pub least : (u j : ℕ) → Queued old u j → t ≤ u
-  pub stays : (u j : ℕ) → Queued old u j → (entry_of t k ≡ entry_of u j → ⊥) → Queued new u j
+  pub stays : (u : ℕ) (y : Item) → Queued old u y → (y ≡ x) ⊎ Queued new u y
   pub fewer : queue_len new + 1 ≡ queue_len old
 
-pub record GivesNone (old new : Queue) : Type 0 where
-  pub base : new.base ≡ old.base
+-- nothing waits for a delay before `until`
+pub record GivesNone (old new : Queue) (until : ℕ) : Type 0 where
   pub right : IsQueue new
-  pub none : (u j : ℕ) → Queued old u j → ⊥
+  pub none : (u : ℕ) (y : Item) → Queued old u y → until ≤ u
+
+-- x is put into the bucket at a place
+pub record PutsAt (old new : Queue) (place : ℕ) (x : Item) : Type 0 where
+  pub right : AreBuckets new
+  pub start : new.start ≡ old.start
+  pub bits : new.bits ≡ old.bits
+  pub current : new.current ≡ old.current
+  pub later : new.later ≡ old.later
+  pub stays : (u : ℕ) (y : Item) → Queued old u y → Queued new u y
+  pub there : (u : ℕ) → begin_of old place ≤ u → Queued new u x
+  pub more : queue_len new ≡ queue_len old + 1
+
+-- items are moved, and none goes out
+pub record Moves (old new : Queue) : Type 0 where
+  pub current : new.current.items ≡ old.current.items
+  pub stays : (u : ℕ) (y : Item) → Queued old u y → Queued new u y
+  pub as_many : queue_len new ≡ queue_len old
+
+-- the bucket in turn has some, or nothing waits for a delay before `until`
+pub record Turns (old new : Queue) (until : ℕ) : Type 0 where
+  pub right : IsQueue new
+  pub stays : (u : ℕ) (y : Item) → Queued old u y → Queued new u y
+  pub as_many : queue_len new ≡ queue_len old
+  pub none : new.current.items ≡ [] → (u : ℕ) (y : Item) → Queued new u y → until ≤ u

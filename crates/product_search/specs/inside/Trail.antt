@@ -1,53 +1,65 @@
--- The way back through the entries of a frontier.
-use Rattle.std.specs.Prelude.{◌≡◌, ℕ, ◌+◌, ◌^◌, ◌≤◌, suc, List, [], ◌∷◌, ⊤, Option, Some, None, slice_get}
+-- The way back through the ways that were taken.
+use Rattle.std.specs.Prelude.{◌≡◌, ℕ, ◌+◌, ◌^◌, ◌<◌, suc, List, [], ◌∷◌, reverse, ⊤, Option, Some, None, slice_get}
 use Rattle.product_search.specs.declared.label.Hop.{Hop}
 use Rattle.product_search.specs.declared.label.Walk.{Walk}
-use Rattle.product_search.specs.declared.row.Reached.{Reached}
-use Rattle.product_search.specs.declared.frontier.Frontier.{Frontier}
-use Rattle.product_search.specs.declared.frontier.Settled.{Settled}
 use Rattle.product_search.specs.declared.row.Row.{Row}
-use Rattle.product_search.specs.inside.Waiting.{rows, reached_at, IsAt, IsLink}
+use Rattle.product_search.specs.declared.row.Taken.{Taken}
+use Rattle.product_search.specs.declared.frontier.Scan.{Scan}
+use Rattle.product_search.specs.declared.frontier.Frontier.{Frontier}
+use Rattle.product_search.specs.inside.Waiting.{rows, ways}
 
--- what an entry was reached from is reached too, and nearer to a start
+-- each way leads to a row, and goes on from a way before it
 pub record HasParents (f : Frontier) : Type 0 where
-  pub depth : ℕ → ℕ → ℕ
-  pub shallow : (v q : ℕ) (x : Reached) → reached_at f v q ≡ Some x → depth v q ≤ 2 ^ 41
-  pub parents : (v q : ℕ) (x : Reached) (k : ℕ) → reached_at f v q ≡ Some x → x.parent ≡ suc k
-      → (w r : ℕ) × IsAt (rows f) w r k × (depth v q ≡ depth w r + 1)
+  pub lead : (n : ℕ) (w : Taken) → slice_get (ways f) n ≡ Some w → (r : Row) × (slice_get (rows f) w.row ≡ Some r)
+  pub before : (n k : ℕ) (w : Taken) → slice_get (ways f) n ≡ Some w → w.parent ≡ suc k → k < n
 
--- the way back from v and q has no more arcs than these and count others
-abbrev pub IsBackWithin : Frontier → ℕ → ℕ → ℕ → Type 0
-IsBackWithin f v q count = (back : HasParents f) × (count + back.depth v q ≤ 2 ^ 41)
+-- it is the number of a way, and 1
+abbrev pub IsWayTo : Frontier → ℕ → Type 0
+IsWayTo f link = (n : ℕ) × (link ≡ suc n) × (w : Taken) × (slice_get (ways f) n ≡ Some w)
 
--- it is the row of some number
-abbrev pub IsRowOf : Frontier → Row → Type 0
-IsRowOf f r = (k : ℕ) × (slice_get (rows f) k ≡ Some r)
+-- the way leads to the node and the state at that time, before the delay of 2^64
+pub record IsWayAt (f : Frontier) (n v q t : ℕ) (w : Taken) : Type 0 where
+  pub known : slice_get (ways f) n ≡ Some w
+  pub row : Row
+  pub leads : slice_get (rows f) w.row ≡ Some row
+  pub node : v ≡ row.node
+  pub state : q ≡ row.state
+  pub at : t ≡ f.base + w.delay
+  pub soon : w.delay < 2 ^ 64
 
--- the hop leads to an entry that was reached by its arc from v and q
-pub record IsTrailHop (f : Frontier) (v q : ℕ) (h : Hop) : Type 0 where
-  pub entry : Reached
-  pub known : reached_at f h.to h.state ≡ Some entry
-  pub at : h.at ≡ entry.at
-  pub parent : IsLink f v q entry.parent
-  pub arc : h.arc ≡ entry.arc
+-- the hop is the last arc of the way n, which goes on from the way before
+pub record IsTrailHop (f : Frontier) (before n : ℕ) (h : Hop) : Type 0 where
+  pub way : Taken
+  pub is_at : IsWayAt f n h.to h.state h.at way
+  pub parent : way.parent ≡ suc before
+  pub arc : h.arc ≡ way.arc
 
-abbrev pub AreTrail : Frontier → ℕ → ℕ → ℕ → List Hop → ℕ → ℕ → ℕ → Type 0
-AreTrail f v q t [] v2 q2 t2 = (v2 ≡ v) × (q2 ≡ q) × (t2 ≡ t)
-AreTrail f v q t (h ∷ hops) v2 q2 t2 = IsTrailHop f v q h × AreTrail f h.to h.state h.at hops v2 q2 t2
+-- the hops lead from the way n to the way last
+abbrev pub AreTrail : Frontier → ℕ → List Hop → ℕ → Type 0
+AreTrail f n [] last = last ≡ n
+AreTrail f n (h ∷ hops) last = (next : ℕ) × IsTrailHop f n next h × AreTrail f next hops last
 
--- the walk leads from an entry without a parent, hop by hop, to v2 and q2
-pub record IsTrailTo (f : Frontier) (v2 q2 : ℕ) (w : Walk) : Type 0 where
-  pub first : Reached
-  pub last : Reached
-  pub begins : reached_at f w.node w.state ≡ Some first
-  pub no_parent : first.parent ≡ 0
-  pub at : w.at ≡ first.at
-  pub ends : reached_at f v2 q2 ≡ Some last
-  pub hops : AreTrail f w.node w.state w.at w.hops.items v2 q2 last.at
+-- the way was come back to from the one that the link stands for, by these hops
+pub record IsBackTo (f : Frontier) (link : ℕ) (way : Taken) (hops : List Hop) : Type 0 where
+  pub number : ℕ
+  pub known : slice_get (ways f) number ≡ Some way
+  pub last : ℕ
+  pub trail : AreTrail f number (reverse hops) last
+  pub ends : link ≡ suc last
+
+-- the walk leads from a way without a parent, hop by hop, to the way that the link stands for
+pub record IsTrailTo (f : Frontier) (link : ℕ) (walk : Walk) : Type 0 where
+  pub first : ℕ
+  pub last : ℕ
+  pub way : Taken
+  pub is_at : IsWayAt f first walk.node walk.state walk.at way
+  pub no_parent : way.parent ≡ 0
+  pub hops : AreTrail f first walk.hops.items last
+  pub ends : link ≡ suc last
 
 -- a walk to the end, exactly where there is one
-abbrev pub IsTrailIfAny : Frontier → Option Settled → Option Walk → Type 0
+abbrev pub IsTrailIfAny : Frontier → Option Scan → Option Walk → Type 0
 IsTrailIfAny f None None = ⊤
-IsTrailIfAny f None (Some w) = ⊥
+IsTrailIfAny f None (Some walk) = ⊥
 IsTrailIfAny f (Some s) None = ⊥
-IsTrailIfAny f (Some s) (Some w) = IsTrailTo f s.node s.state w
+IsTrailIfAny f (Some s) (Some walk) = IsTrailTo f s.link walk

@@ -1,43 +1,20 @@
--- What is known of the product states, and who waits in the queue.
-use Rattle.std.specs.Prelude.{◌≡◌, ℕ, ◌≤◌, Bool, true, false, not, ◌&&◌, ◌||◌, ◌==◌, suc, ◌+◌, ◌*◌, ◌/◌, ◌-◌, ◌<◌, List, map, length, slice_index, slice_get, Option, Some, None, nat_le, if◌then◌else◌, ◌^◌, bit_and}
-use Rattle.std.specs.Map.{lookup}
-use Rattle.product_search.specs.inside.Kept.{told_in}
-use Rattle.product_search.specs.inside.OfRows.{Waits}
-use Rattle.product_search.specs.inside.Queued.{Queued, IsQueue}
+-- What is reached, and who waits in the queue.
+use Rattle.std.specs.Prelude.{◌≡◌, ℕ, ◌≤◌, suc, ◌+◌, ◌*◌, ◌/◌, ◌-◌, ◌<◌, ◌^◌, ◌⊎◌, List, length, slice_index, slice_get, Some, nat_lt, if◌then◌else◌, bit_and}
+use Rattle.product_search.specs.inside.Queued.{Queued, IsQueue, queue_len}
+use Rattle.product_search.specs.declared.queue.Item.{Item}
 use Rattle.product_search.specs.declared.row.Reached.{Reached}
-use Rattle.product_search.specs.declared.entry.Entry.{Entry}
-use Rattle.product_search.specs.declared.frontier.Settled.{Settled}
 use Rattle.product_search.specs.declared.row.Row.{Row}
+use Rattle.product_search.specs.declared.row.Taken.{Taken}
+use Rattle.product_search.specs.declared.frontier.Scan.{Scan}
 use Rattle.product_search.specs.declared.frontier.Frontier.{Frontier}
 
--- product states are compared part by part
-abbrev pub state_eq : ℕ × ℕ → ℕ × ℕ → Bool
-state_eq x y = (x.0 == y.0) && (x.1 == y.1)
-
--- ---- rows
-
 abbrev pub rows : Frontier → List Row
-rows f = f.rows.rows
+rows f = f.rows.items
 
--- the way that an entry tells of a frontier
-abbrev pub told : Frontier → Entry → Reached
-told f entry = told_in f.rows entry
+abbrev pub ways : Frontier → List Taken
+ways f = f.ways.items
 
 -- ---- product states
-
--- a row as a key of a map and what is known of it
-abbrev pub keyed : Row → (ℕ × ℕ) × Reached
-keyed r = ((r.node, r.state), r.known)
-
-abbrev pub keyed_rows : Frontier → List ((ℕ × ℕ) × Reached)
-keyed_rows f = map keyed (rows f)
-
--- what is known of v and q by the first row that is theirs
-abbrev pub reached_in : List Row → ℕ → ℕ → Option Reached
-reached_in rs v q = lookup (state_eq (v, q)) (map keyed rs)
-
-abbrev pub reached_at : Frontier → ℕ → ℕ → Option Reached
-reached_at f v q = reached_in (rows f) v q
 
 -- the row with that number is the one of v and q
 pub record IsAt (rs : List Row) (v q k : ℕ) : Type 0 where
@@ -53,13 +30,7 @@ IsNowhere rs v q = (k : ℕ) → IsAt rs v q k → ⊥
 abbrev pub IsApart : List Row → Type 0
 IsApart rs = (v q j k : ℕ) → IsAt rs v q j → IsAt rs v q k → j ≡ k
 
--- c stands for the row of v and q: it is its number and 1
-abbrev pub IsLink : Frontier → ℕ → ℕ → ℕ → Type 0
-IsLink f v q c = (k : ℕ) × (c ≡ suc k) × IsAt (rows f) v q k
-
--- each product state keeps its number
-abbrev pub KeepsNumbers : Frontier → Frontier → Type 0
-KeepsNumbers old new = (v q k : ℕ) → IsAt (rows old) v q k → IsAt (rows new) v q k
+-- ---- chains
 
 -- the chain of v and q, where each node has so many, among which its states are shared out
 abbrev pub chain_of : ℕ → ℕ → ℕ → ℕ
@@ -87,55 +58,92 @@ pub record IsIndexed (count : ℕ) (rs : List Row) (first : List ℕ) : Type 0 w
   pub first_of : (chain : ℕ) → IsLast count rs chain (length rs) (slice_index first chain)
   pub next : (k : ℕ) (r : Row) → slice_get rs k ≡ Some r → IsLast count rs (chain_in count r) k r.next
 
--- ---- the queue
+-- ---- times
 
--- it waits for the time t
-abbrev pub waits_at : Option Reached → ℕ → Bool
-waits_at None t = false
-waits_at (Some x) t = not x.settled && (x.at == t)
+-- the delay of a time, up to the greatest one
+abbrev pub delay_at : ℕ → ℕ → ℕ
+delay_at base t = if nat_lt (t - base) (2 ^ 64 - 1) then t - base else 2 ^ 64 - 1
 
--- the queue has each that waits, and the rows are apart and found, and few
-pub record IsQueueRight (f : Frontier) : Type 0 where
+-- the time is before the end of what is wanted, if there is one
+abbrev pub IsWanted : Frontier → ℕ → Type 0
+IsWanted f t = (f.until ≡ 2 ^ 64 - 1) ⊎ (t < f.base + f.until)
+
+-- v and q are reached by t
+pub record IsReachedBy (f : Frontier) (v q t : ℕ) : Type 0 where
+  pub number : ℕ
+  pub row : Row
+  pub known : slice_get (rows f) number ≡ Some row
+  pub node : row.node ≡ v
+  pub state : row.state ≡ q
+  pub by : f.base + row.delay ≤ t
+
+-- ---- frontiers
+
+-- the last way to the product state of the row k is this one
+pub record IsLastWay (f : Frontier) (k : ℕ) (r : Row) (w : Taken) : Type 0 where
+  pub known : slice_get (ways f) r.way ≡ Some w
+  pub row : w.row ≡ k
+  pub delay : w.delay ≡ r.delay
+
+-- the row k waits in the queue, with its last way
+abbrev pub Waits : Frontier → ℕ → Row → Type 0
+Waits f k r = Queued f.queue r.delay (record { row = k; way = r.way })
+
+-- the rows are apart and found, each has its last way, and they and the ways are few
+pub record IsFrontier (f : Frontier) : Type 0 where
   pub queue : IsQueue f.queue
-  pub base : f.queue.base ≡ f.rows.base
-  pub waits : (k t : ℕ) (r : Row) → Waits (rows f) k t r → Queued f.queue t k
   pub apart : IsApart (rows f)
   pub indexed : IsIndexed f.chains.count (rows f) f.first.items
+  pub last_ways : (k : ℕ) (r : Row) → slice_get (rows f) k ≡ Some r → (w : Taken) × IsLastWay f k r w
+  pub soon : (k : ℕ) (r : Row) → slice_get (rows f) k ≡ Some r → r.delay < 2 ^ 64 - 1
   pub few : length (rows f) < 2 ^ 32
+  pub few_ways : length (ways f) < 2 ^ 32
 
-abbrev pub is_same : ℕ → ℕ → ℕ → ℕ → Bool
-is_same v q w r = (v == w) && (q == r)
+-- the way to the row k
+abbrev pub taken_as : Reached → ℕ → Taken
+taken_as way k = record { delay = way.delay; arc = way.arc; parent = way.parent; row = k }
 
--- what is known after a way was offered
-abbrev pub offered : Option Reached → Reached → Option Reached
-offered None way = Some way
-offered (Some x) way = if x.settled || nat_le x.at way.at then Some x else Some way
+-- ---- turns
 
--- a way that arrives at t changes nothing of it
-abbrev pub HasAsGood : Frontier → ℕ → ℕ → ℕ → Type 0
-HasAsGood f v q t = (way : Reached) → way.at ≡ t → offered (reached_at f v q) way ≡ reached_at f v q
+-- nothing has changed but the queue
+pub record IsSameBut (old new : Frontier) : Type 0 where
+  pub base : new.base ≡ old.base
+  pub until : new.until ≡ old.until
+  pub rows : rows new ≡ rows old
+  pub ways : ways new ≡ ways old
 
-pub record IsOffered (old new : Frontier) (v q : ℕ) (way : Reached) : Type 0 where
-  pub known : (w r : ℕ) → reached_at new w r ≡ (if is_same v q w r then offered (reached_at old w r) way else reached_at old w r)
-  pub numbers : KeepsNumbers old new
+-- s is the row of the item, with its last way, which is that of the item, and is wanted
+pub record IsScanOf (f : Frontier) (x : Item) (s : Scan) : Type 0 where
+  pub row : Row
+  pub known : slice_get (rows f) x.row ≡ Some row
+  pub way : row.way ≡ x.way
+  pub node : s.node ≡ row.node
+  pub state : s.state ≡ row.state
+  pub delay : s.delay ≡ row.delay
+  pub link : s.link ≡ suc row.way
+  pub early : s.delay < f.until
 
--- way is known of v and q, and at each other product state what was known
-abbrev pub IsSetAt : List Row → List Row → ℕ → ℕ → Reached → Type 0
-IsSetAt old new v q way = (w r : ℕ) → reached_in new w r ≡ (if is_same v q w r then Some way else reached_in old w r)
+-- the row of the item has another last way, or is not wanted
+abbrev pub IsPassedOver : Frontier → Item → Type 0
+IsPassedOver f x = (r : Row) → slice_get (rows f) x.row ≡ Some r → r.way ≡ x.way → f.until ≤ r.delay
 
-abbrev pub NobodyWaits : Frontier → Type 0
-NobodyWaits f = (w r u : ℕ) → waits_at (reached_at f w r) u ≡ false
+-- s is taken from the queue, to be explored by its last way; of the others that wait for a delay that is wanted each does so still
+pub record Takes (old new : Frontier) (s : Scan) : Type 0 where
+  pub same : IsSameBut old new
+  pub right : IsFrontier new
+  pub number : ℕ
+  pub row : Row
+  pub known : slice_get (rows old) number ≡ Some row
+  pub node : s.node ≡ row.node
+  pub state : s.state ≡ row.state
+  pub delay : s.delay ≡ row.delay
+  pub link : s.link ≡ suc row.way
+  pub early : s.delay < old.until
+  pub others : (k : ℕ) (r : Row) → slice_get (rows old) k ≡ Some r → Waits old k r → (k ≡ number) ⊎ Waits new k r ⊎ (old.until ≤ r.delay)
+  pub fewer : queue_len new.queue < queue_len old.queue
 
-abbrev pub SameReached : Frontier → Frontier → Type 0
-SameReached old new = (w r : ℕ) → reached_at new w r ≡ reached_at old w r
-
--- s waited, and nobody for an earlier time; now it is settled, and nothing else has changed
-pub record SettlesLeast (old new : Frontier) (s : Settled) : Type 0 where
-  pub entry : Reached
-  pub waited : reached_at old s.node s.state ≡ Some entry
-  pub unsettled : entry.settled ≡ false
-  pub at : s.at ≡ entry.at
-  pub link : IsLink new s.node s.state s.link
-  pub numbers : KeepsNumbers old new
-  pub least : (w r u : ℕ) → waits_at (reached_at old w r) u ≡ true → s.at ≤ u
-  pub changed : (w r : ℕ) → reached_at new w r ≡ (if is_same s.node s.state w r then Some (record entry { settled = true }) else reached_at old w r)
+-- nobody waits for a delay that is wanted
+pub record TakesNone (old new : Frontier) : Type 0 where
+  pub same : IsSameBut old new
+  pub right : IsFrontier new
+  pub none : (k : ℕ) (r : Row) → slice_get (rows old) k ≡ Some r → Waits old k r → old.until ≤ r.delay

@@ -1,5 +1,5 @@
-use Rattle.std.proofs.Common.{arith}
-use Rattle.product_search.specs.inside.Exploring.{IsByWays, IsSuccessor}
+use Rattle.std.proofs.Common.{◌≡◌, ◌+◌, subst, arith}
+use Rattle.product_search.specs.inside.Exploring.{Offers, IsByWays, IsSuccessor}
 use Rattle.product_search.proofs.OfferLemmas.{arc_keeps, reached_keeps, offers_more, offers_weaker}
 use Rattle.product_search.proofs.GivenLemmas.{visit_by, read_alone, read_among, given_keeps, given_more}
 use Rattle.product_search.proofs.TakenLemmas.{ways_letters, ways_times, by_ways, arcs_reached}
@@ -7,47 +7,68 @@ use Rattle.product_search.proofs.explore.explore.Goals as goal
 
 pub explore_ways-requires-clause-letters : goal.explore_ways-requires-clause-letters
 explore_ways-requires-clause-letters g c =
-    ways_letters (g.G.Graph.meaning c.args.product.graph.now) (g.L.Labels.automaton c.args.product.machine.now.labels) c.args.product.bound c.args.from _ _ (omega arith) _
-    (read_among (read_alone (visit_by c.args.from c.letters_of.result c.leaving.result) c.in_ok-fresh_ways.ensures c.clear.ensures.items c.deref.ensures.value)) (g.met.G.Graph.lawful c.args.product.graph.now) c.requires.node
+    let t = c.time.result in
+    ways_letters (g.G.Graph.meaning c.args.graph.now) (g.L.Labels.automaton c.args.machine.now.labels) c.explore_steady.new.frontier.base c.args.from t _ _
+    (omega (arith, c.time.ensures.at)) (omega (arith, c.time.ensures.at)) _
+    (read_among (read_alone (visit_by c.args.from t c.letters_of.result c.leaving.result) c.in_ok-fresh_ways.ensures c.clear.ensures.items c.deref.ensures.value))
+    (g.met.G.Graph.lawful c.args.graph.now) c.requires.node
 
 pub explore_ways-requires-clause-times : goal.explore_ways-requires-clause-times
 explore_ways-requires-clause-times g c =
-    ways_times (g.G.Graph.meaning c.args.product.graph.now) (g.L.Labels.automaton c.args.product.machine.now.labels) c.args.product.bound c.args.from _ _ (omega arith) _
-    (read_among (read_alone (visit_by c.args.from c.letters_of.result c.leaving.result) c.in_ok-fresh_ways.ensures c.clear.ensures.items c.deref.ensures.value)) (g.met.G.Graph.lawful c.args.product.graph.now) c.requires.node
+    let t = c.time.result in
+    ways_times (g.G.Graph.meaning c.args.graph.now) (g.L.Labels.automaton c.args.machine.now.labels) c.explore_steady.new.frontier.base c.args.from t _ _
+    (omega (arith, c.time.ensures.at)) (omega (arith, c.time.ensures.at)) _
+    (read_among (read_alone (visit_by c.args.from t c.letters_of.result c.leaving.result) c.in_ok-fresh_ways.ensures c.clear.ensures.items c.deref.ensures.value))
+    (g.met.G.Graph.lawful c.args.graph.now) c.requires.node
 
 pub returns-clause-offers : goal.returns-clause-offers
 returns-clause-offers g c =
-    let graph = g.G.Graph.meaning c.args.product.graph.now in
-    let labels = g.L.Labels.automaton c.args.product.machine.now.labels in
+    let graph = g.G.Graph.meaning c.args.graph.now in
+    let labels = g.L.Labels.automaton c.args.machine.now.labels in
     let s = c.args.from in
-    let successor = IsSuccessor graph labels c.args.product.bound s in
-    offers_more c.args.frontier.now c.explore_steady.new.frontier c.explore_ways.new.frontier successor c.in_ok-explore_steady.ensures.offers
-    (offers_weaker c.explore_steady.new.frontier c.explore_ways.new.frontier (IsByWays labels c.args.product.bound s c.deref.result.now) successor
-    (by_ways graph labels c.args.product.bound s _ _ (omega arith) _ (read_among (read_alone (visit_by c.args.from c.letters_of.result c.leaving.result) c.in_ok-fresh_ways.ensures c.clear.ensures.items c.deref.ensures.value)) c.requires.node)
-    c.in_ok-explore_ways.ensures.offers)
+    let t = c.time.result in
+    let mid = c.explore_steady.new.frontier in
+    let new = c.explore_ways.new.frontier in
+    let successor = IsSuccessor graph labels c.args.frontier.now.base s in
+    offers_more c.args.frontier.now mid new successor c.in_ok-explore_steady.ensures.offers
+    (subst (λ b. Offers mid new (IsSuccessor graph labels b s)) c.in_ok-explore_steady.ensures.offers.base
+    (offers_weaker mid new (IsByWays labels mid.base s c.deref.result.now) (IsSuccessor graph labels mid.base s)
+    (by_ways graph labels mid.base s t _ _ (omega (arith, c.time.ensures.at)) (omega (arith, c.time.ensures.at)) _
+    (read_among (read_alone (visit_by s t c.letters_of.result c.leaving.result) c.in_ok-fresh_ways.ensures c.clear.ensures.items c.deref.ensures.value)) c.requires.node)
+    c.in_ok-explore_ways.ensures.offers))
 
 pub returns-clause-reached : goal.returns-clause-reached
 returns-clause-reached g c =
-    let graph = g.G.Graph.meaning c.args.product.graph.now in
-    let labels = g.L.Labels.automaton c.args.product.machine.now.labels in
+    let graph = g.G.Graph.meaning c.args.graph.now in
+    let labels = g.L.Labels.automaton c.args.machine.now.labels in
     let s = c.args.from in
-    let successor = IsSuccessor graph labels c.args.product.bound s in
-    let read = read_alone (visit_by s c.letters_of.result c.leaving.result) c.in_ok-fresh_ways.ensures c.clear.ensures.items c.deref.ensures.value in
-    arcs_reached graph labels c.args.product.bound s _ c.explore_ways.new.frontier
-    c.letters_of.ensures
-    _ _ c.leaving.ensures
-    (reached_keeps c.args.frontier.now c.explore_ways.new.frontier successor (returns-clause-offers g c) s.node s.state s.at c.requires.here)
+    let old = c.args.frontier.now in
+    let mid = c.explore_steady.new.frontier in
+    let new = c.explore_ways.new.frontier in
+    let t = c.time.result in
+    let successor = IsSuccessor graph labels old.base s in
+    let offers = returns-clause-offers g c in
+    let read = read_alone (visit_by s t c.letters_of.result c.leaving.result) c.in_ok-fresh_ways.ensures c.clear.ensures.items c.deref.ensures.value in
+    let here : old.base + s.delay ≡ t = omega (arith, c.in_ok-explore_steady.ensures.offers.base, c.time.ensures.at) in
+    let there : new.base + s.delay ≡ t = omega (arith, offers.base, here) in
+    let before : mid.base + s.delay ≡ t = omega (arith, c.time.ensures.at) in
+    rw there (arcs_reached graph labels s.node s.state t _ new c.letters_of.ensures _ _ c.leaving.ensures
+    (reached_keeps old new successor offers s.node s.state t (rw (← here) c.requires.here))
     read.moving read.parts _ _ _ read.fresh.rest
-    (given_keeps labels c.args.product.bound (g.G.Graph.rides c.args.product.graph.now) c.args.frontier.now c.explore_ways.new.frontier c.args.given.now
-    successor (returns-clause-offers g c) c.requires.given)
+    (given_keeps labels (g.G.Graph.rides c.args.graph.now) old new c.args.given.now successor offers c.requires.given)
     c.in_ok-explore_ways.ensures.reached
-    (λ i lt. arc_keeps graph labels c.args.product.bound c.explore_steady.new.frontier c.explore_ways.new.frontier (IsByWays labels c.args.product.bound s c.deref.result.now)
-    c.in_ok-explore_ways.ensures.offers s.node s.state s.at i (c.in_ok-explore_steady.ensures.reached i (omega arith)))
+    (λ i lt. arc_keeps graph labels mid new (IsByWays labels mid.base s c.deref.result.now) c.in_ok-explore_ways.ensures.offers s.node s.state t i
+    (rw (← before) (c.in_ok-explore_steady.ensures.reached i lt))))
 
 pub returns-clause-given : goal.returns-clause-given
 returns-clause-given g c =
-    let labels = g.L.Labels.automaton c.args.product.machine.now.labels in
+    let labels = g.L.Labels.automaton c.args.machine.now.labels in
     let s = c.args.from in
-    given_more labels c.args.product.bound _ c.explore_ways.new.frontier (read_alone (visit_by c.args.from c.letters_of.result c.leaving.result) c.in_ok-fresh_ways.ensures c.clear.ensures.items c.deref.ensures.value).fresh c.in_ok-explore_ways.ensures.reached
-    (given_keeps labels c.args.product.bound (g.G.Graph.rides c.args.product.graph.now) c.args.frontier.now c.explore_ways.new.frontier c.args.given.now
-    (IsSuccessor (g.G.Graph.meaning c.args.product.graph.now) labels c.args.product.bound s) (returns-clause-offers g c) c.requires.given)
+    let old = c.args.frontier.now in
+    let new = c.explore_ways.new.frontier in
+    let t = c.time.result in
+    given_more labels _ new
+    (read_alone (visit_by s t c.letters_of.result c.leaving.result) c.in_ok-fresh_ways.ensures c.clear.ensures.items c.deref.ensures.value).fresh
+    c.in_ok-explore_ways.ensures.reached
+    (given_keeps labels (g.G.Graph.rides c.args.graph.now) old new c.args.given.now (IsSuccessor (g.G.Graph.meaning c.args.graph.now) labels old.base s)
+    (returns-clause-offers g c) c.requires.given)

@@ -1,13 +1,12 @@
-use Rattle.std.proofs.Common.{ℕ, ◌<◌}
-use Rattle.std.specs.Prelude.{All, slice_index}
-use Rattle.product_search.specs.inside.Waiting.{IsQueueRight}
-use Rattle.product_search.specs.inside.Exploring.{IsSettledBy, Offers, IsByLegsIn, LegIsReached}
+use Rattle.std.specs.Prelude.{All}
+use Rattle.std.specs.List.{AllWithin}
+use Rattle.product_search.specs.inside.Waiting.{IsFrontier}
+use Rattle.product_search.specs.inside.Exploring.{Offers, IsByLegsIn, LegIsReached}
 use Rattle.product_search.proofs.explore.offer_to_states.Given as goal
 
 abbrev pub invariant-loop-next : goal.invariant-loop-next
 invariant-loop-next l = record {
-  right : IsQueueRight l.frontier;
-  settled : IsSettledBy l.frontier l.from.at;
-  offers : Offers l.initial.frontier l.frontier (IsByLegsIn l.bound l.from l.states l.legs);
-  reached : (k : ℕ) → k < l.next-index → All (LegIsReached l.bound l.frontier (slice_index l.states k) l.from.at) l.legs;
+  right : IsFrontier l.frontier;
+  offers : Offers l.initial.frontier l.frontier (IsByLegsIn l.from l.states l.legs);
+  reached : AllWithin (λ next. All (LegIsReached l.frontier next l.from.delay) l.legs) l.states 0 l.next-index;
 }

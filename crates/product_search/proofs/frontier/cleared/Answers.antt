@@ -1,13 +1,18 @@
-use Rattle.std.proofs.Common.{sym, ◌∙◌, ap, arith}
+use Rattle.std.proofs.Common.{get_or, sym, ◌∙◌, ap, arith}
 use Rattle.std.specs.Prelude.{slice_index}
-use Rattle.product_search.proofs.QueueLemmas.{behind_key, behind_all}
+use Rattle.std.proofs.lemmas.Option.{slice_get-get_or}
+use Rattle.product_search.specs.declared.row.Row.{Row}
+use Rattle.product_search.proofs.FrontierLemmas.{behind_next, behind_all}
 use Rattle.product_search.proofs.frontier.cleared.Goals as goal
 
-pub clear-preserved : goal.clear-preserved
-clear-preserved c =
-    behind_key c.args.chains.count c.args.rows.now.rows c.clear.first.items c.clear_at.new.first.items c.clear.k c.key-key.result (omega (arith, c.clear-test.true, c.len-k-end.ensures)) c.key-key.ensures
-    c.clear.invariant (ap (slice_index c.clear_at.new.first.items) (sym c.place.ensures) ∙ c.clear_at.ensures.here)
+pub loop-row-preserved : goal.loop-row-preserved
+loop-row-preserved c =
+    let rows = c.args.rows.now in
+    let i = c.loop-row.row-index in
+    let blank : Row = record { node = 0; state = 0; next = 0; way = 0; delay = 0 } in
+    behind_next c.args.chains.count rows c.loop-row.first.items c.clear_at.new.first.items i (get_or rows i blank) (slice_get-get_or rows i blank c.loop-row-test.true)
+    c.loop-row.invariant (ap (slice_index c.clear_at.new.first.items) (sym c.place.ensures) ∙ c.clear_at.ensures.here)
     (λ v other. c.clear_at.ensures.others v (λ e. other (e ∙ c.place.ensures)))
 
 pub returns : goal.returns
-returns c = behind_all c.args.chains.count c.args.rows.now.rows c.clear.first.items c.clear.k (omega (arith, c.clear-test.false, c.len-k-end.ensures)) c.clear.invariant
+returns c = behind_all c.args.chains.count c.args.rows.now c.loop-row.first.items c.loop-row.row-index (omega arith) c.loop-row.invariant

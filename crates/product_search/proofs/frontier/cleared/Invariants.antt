@@ -1,5 +1,5 @@
 use Rattle.product_search.specs.inside.Waiting.{HasChainsFrom}
 use Rattle.product_search.proofs.frontier.cleared.Given as goal
 
-abbrev pub invariant-clear : goal.invariant-clear
-invariant-clear l = HasChainsFrom l.chains.count l.rows.rows l.first.items l.k
+abbrev pub invariant-loop-row : goal.invariant-loop-row
+invariant-loop-row l = HasChainsFrom l.chains.count l.rows l.first.items l.row-index

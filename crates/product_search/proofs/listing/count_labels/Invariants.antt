@@ -1,8 +1,7 @@
-use Rattle.std.proofs.Common.{◌≡◌, length, filter_map}
-use Rattle.std.specs.Prelude.{take}
+use Rattle.std.proofs.Common.{◌≡◌, length, filter_map, take}
 use Rattle.product_search.specs.inside.Waiting.{rows}
 use Rattle.product_search.specs.inside.Searching.{label_of_row}
 use Rattle.product_search.proofs.listing.count_labels.Given as goal
 
-abbrev pub invariant-rows : goal.invariant-rows
-invariant-rows l = l.count ≡ length (filter_map (label_of_row l.arrival) (take l.number (rows l.frontier)))
+abbrev pub invariant-loop-row : goal.invariant-loop-row
+invariant-loop-row l = l.count ≡ length (filter_map (label_of_row l.frontier.base l.until) (take l.row-index (rows l.frontier)))

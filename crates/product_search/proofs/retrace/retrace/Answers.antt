@@ -1,35 +1,42 @@
-use Rattle.std.proofs.Common.{◌-◌, refl, arith}
-use Rattle.product_search.proofs.TrailLemmas.{back_init, back_next, trail_next, back_ends, parent_link, link_within}
+use Rattle.std.proofs.Common.{length, refl, arith}
+use Rattle.std.proofs.lemmas.Option.{slice_get_read}
+use Rattle.product_search.specs.inside.Waiting.{rows, ways}
+use Rattle.product_search.proofs.TrailLemmas.{back_begins, back_on, back_ends, way_to_within, row_within, parent_within, parent_falls}
 use Rattle.product_search.proofs.retrace.retrace.Goals as goal
 
 pub back-init : goal.back-init
 back-init c =
-    let begins = back_init c.args.frontier.now c.requires.right c.requires.parents c.args.end.node c.args.end.state c.args.end.link c.requires.link
-    c.row-row.result c.row-row.ensures _ c.new-hops.ensures.len in
-    record { here = begins.0; back = begins.1; trail = rw c.new-hops.ensures.items begins.2 }
+    let f = c.args.frontier.now in
+    back_begins f c.args.end.link c.requires.link c.index-way.result.now _
+    (slice_get_read (ways f) (length (ways f)) _ _ refl (way_to_within f c.args.end.link c.requires.link) c.index-way.ensures) c.new-hops.ensures.items
 
-pub row-row-requires-in-back : goal.row-row-requires-in-back
-row-row-requires-in-back c =
-    let parent = parent_link c.args.frontier.now c.requires.right c.requires.parents c.back.row c.back.invariant.here c.back-test.true in
-    link_within c.args.frontier.now c.requires.right parent.0 parent.1 c.back.row.known.parent parent.2
+pub index-way-requires-in-back : goal.index-way-requires-in-back
+index-way-requires-in-back c =
+    let lt = parent_within c.args.frontier.now c.requires.parents c.back.invariant.number c.back.way c.back.invariant.known c.back-test.true in omega (arith, lt)
 
 pub back-smaller : goal.back-smaller
 back-smaller c =
-    let next = back_next c.args.frontier.now c.requires.right c.back.row c.row-row-in-back.result c.back.invariant.here c.back-test.true c.row-row-in-back.ensures
-    _ _ c.in_ok-push.ensures.len c.back.invariant.back in
-    omega (arith, next.1, c.in_ok-push.ensures.len)
+    let f = c.args.frontier.now in
+    let lt = parent_within f c.requires.parents c.back.invariant.number c.back.way c.back.invariant.known c.back-test.true in
+    parent_falls f c.requires.parents c.back.invariant.number c.back.way c.index-way-in-back.result.now c.back.invariant.known c.back-test.true
+    (slice_get_read (ways f) (length (ways f)) _ _ refl lt c.index-way-in-back.ensures)
 
 pub back-preserved : goal.back-preserved
-back-preserved c = record {
-  here = (c.back.row.known.parent - 1, c.row-row-in-back.ensures);
-  back = back_next c.args.frontier.now c.requires.right c.back.row c.row-row-in-back.result c.back.invariant.here c.back-test.true c.row-row-in-back.ensures
-      _ _ c.in_ok-push.ensures.len c.back.invariant.back;
-  trail = rw c.in_ok-push.ensures.items
-      (trail_next c.args.frontier.now c.requires.right c.back.row c.row-row-in-back.result c.back.invariant.here c.back-test.true c.row-row-in-back.ensures
-      c.back.hops.items _ _ _ c.back.invariant.trail);
-}
+back-preserved c =
+    let f = c.args.frontier.now in
+    back_on f c.args.end.link c.back.way c.index-way-in-back.result.now c.index-row.result.now c.time.result c.back.hops.items _ c.back.invariant c.back-test.true
+    (slice_get_read (rows f) (length (rows f)) _ _ refl (row_within f c.requires.parents c.back.invariant.number c.back.way c.back.invariant.known) c.index-row.ensures)
+    c.time.ensures.at c.time.ensures.soon
+    (slice_get_read (ways f) (length (ways f)) _ _ refl (parent_within f c.requires.parents c.back.invariant.number c.back.way c.back.invariant.known c.back-test.true)
+    c.index-way-in-back.ensures) c.in_ok-push.ensures.items
+
+pub index-row-requires-2 : goal.index-row-requires-2
+index-row-requires-2 c =
+    let lt = row_within c.args.frontier.now c.requires.parents c.back.invariant.number c.back.way c.back.invariant.known in omega (arith, lt)
 
 pub returns : goal.returns
 returns c =
-    back_ends c.args.frontier.now c.requires.right c.args.end.node c.args.end.state c.args.end.link c.requires.link c.row-row.result c.back.row c.row-row.ensures
-    c.back.invariant.here c.back-test.false _ refl refl refl (rw c.reverse.ensures.items c.back.invariant.trail)
+    let f = c.args.frontier.now in
+    back_ends f c.args.end.link c.back.way c.index-row-2.result.now c.back.hops.items _ c.back.invariant c.back-test.false
+    (slice_get_read (rows f) (length (rows f)) _ _ refl (row_within f c.requires.parents c.back.invariant.number c.back.way c.back.invariant.known) c.index-row-2.ensures)
+    refl refl c.time-2.ensures.at c.time-2.ensures.soon c.reverse.ensures.items

@@ -6,40 +6,42 @@ use Rattle.product_search.proofs.searching.search_within.Goals as goal
 
 pub returns-clause-labels : goal.returns-clause-labels
 returns-clause-labels g c =
-    let f = c.in_ok-settled.settled.frontier in
-    let is = rw c.in-Ended.is at c.in_ok-settled.ensures in
-    least_labels (g.G.Graph.meaning c.args.question.now.graph.now) (g.L.Labels.automaton c.args.question.now.machine.now.labels) c.args.question.now.starts.now c.args.question.now.targets.now c.args.question.now.dep c.args.question.now.bound c.in-Ended.best.arrival
-    f is.searched c.in_ok-labels.labels.items c.in_ok-labels.ensures.sorted c.in_ok-labels.ensures.labels
+    let q = c.args.question.now in
+    least_labels (g.G.Graph.meaning q.graph.now) (g.L.Labels.automaton q.machine.now.labels) q.starts.now q.targets.now q.dep q.bound q.within
+    c.in_ok-answered.answered.frontier c.in-Ended.best (rw c.in-Ended.is at c.in_ok-answered.ensures) c.in_ok-labels.labels.items c.in_ok-labels.ensures.sorted c.in_ok-labels.ensures.labels
 
 pub returns-in-Some-clause-stopped : goal.returns-in-Some-clause-stopped
 returns-in-Some-clause-stopped g c =
-    let graph = g.G.Graph.meaning c.args.question.now.graph.now in
-    let labels = g.L.Labels.automaton c.args.question.now.machine.now.labels in
-    let is = rw c.in-Ended.is at c.in_ok-settled.ensures in
-    let least = least_labels graph labels c.args.question.now.starts.now c.args.question.now.targets.now c.args.question.now.dep c.args.question.now.bound c.in-Ended.best.arrival
-    c.in_ok-settled.settled.frontier is.searched c.in_ok-labels.labels.items c.in_ok-labels.ensures.sorted c.in_ok-labels.ensures.labels in
+    let q = c.args.question.now in
+    let graph = g.G.Graph.meaning q.graph.now in
+    let labels = g.L.Labels.automaton q.machine.now.labels in
+    let is = rw c.in-Ended.is at c.in_ok-answered.ensures in
+    let least = least_labels graph labels q.starts.now q.targets.now q.dep q.bound q.within c.in_ok-answered.answered.frontier c.in-Ended.best is
+    c.in_ok-labels.labels.items c.in_ok-labels.ensures.sorted c.in_ok-labels.ensures.labels in
     let more = c.in-Some.ensures.more in (
       more.0,
-      more_listed graph labels c.args.question.now.starts.now c.args.question.now.targets.now c.args.question.now.dep c.args.question.now.bound c.in-Ended.best.arrival is.arrival c.in_ok-labels.labels.items least
+      more_listed graph labels q.starts.now q.targets.now q.dep q.bound c.in-Ended.best.arrival is.arrival c.in_ok-labels.labels.items least
           c.in-Some.most (omega (arith, more.1, c.len.ensures)),
     )
 
 pub returns-clause-closed : goal.returns-clause-closed
 returns-clause-closed g c unbounded =
-    let f = c.in_ok-settled.settled.frontier in
-    let is = rw c.in-Ended.is at c.in_ok-settled.ensures in
-    labels_closed (g.G.Graph.meaning c.args.question.now.graph.now) (g.met.G.Graph.lawful c.args.question.now.graph.now) (g.L.Labels.automaton c.args.question.now.machine.now.labels) (g.met.L.Labels.lawful c.args.question.now.machine.now.labels)
-    c.args.question.now.starts.now c.args.question.now.targets.now c.args.question.now.starts_there c.args.question.now.dep c.args.question.now.bound c.in-Ended.best.arrival unbounded c.in_ok-labels.labels.items
-    is.arrival (returns-clause-labels g c)
-    (reached_listed (g.G.Graph.meaning c.args.question.now.graph.now) (g.L.Labels.automaton c.args.question.now.machine.now.labels) c.args.question.now.starts.now c.args.question.now.targets.now c.args.question.now.dep c.args.question.now.bound c.in-Ended.best.arrival
-    f is.searched c.in_ok-labels.labels.items c.in_ok-labels.ensures.sorted c.in_ok-labels.ensures.labels)
+    let q = c.args.question.now in
+    let graph = g.G.Graph.meaning q.graph.now in
+    let labels = g.L.Labels.automaton q.machine.now.labels in
+    let is = rw c.in-Ended.is at c.in_ok-answered.ensures in
+    labels_closed graph (g.met.G.Graph.lawful q.graph.now) labels (g.met.L.Labels.lawful q.machine.now.labels) q.starts.now q.targets.now q.starts_there q.dep q.bound c.in-Ended.best.arrival unbounded
+    c.in_ok-labels.labels.items is.arrival (returns-clause-labels g c)
+    (reached_listed graph labels q.starts.now q.targets.now q.dep q.bound q.within c.in_ok-answered.answered.frontier c.in-Ended.best is
+    c.in_ok-labels.labels.items c.in_ok-labels.ensures.sorted c.in_ok-labels.ensures.labels)
 
 pub returns-clause-times : goal.returns-clause-times
 returns-clause-times g c =
-    let is = rw c.in-Ended.is at c.in_ok-settled.ensures in
+    let q = c.args.question.now in
+    let is = rw c.in-Ended.is at c.in_ok-answered.ensures in
     record {
       arrival = is.arrival_soon;
-      labels = labels_in_time (g.G.Graph.meaning c.args.question.now.graph.now) (g.L.Labels.automaton c.args.question.now.machine.now.labels) c.args.question.now.starts.now c.args.question.now.targets.now c.args.question.now.dep c.args.question.now.bound c.in-Ended.best.arrival
-          c.in_ok-settled.settled.frontier is.searched c.in_ok-labels.labels.items c.in_ok-labels.ensures.sorted c.in_ok-labels.ensures.labels;
+      labels = labels_in_time (g.G.Graph.meaning q.graph.now) (g.L.Labels.automaton q.machine.now.labels) q.starts.now q.targets.now q.dep q.bound q.within
+          c.in_ok-answered.answered.frontier c.in-Ended.best is c.in_ok-labels.labels.items c.in_ok-labels.ensures.sorted c.in_ok-labels.ensures.labels;
       walk = is.walk_soon;
     }

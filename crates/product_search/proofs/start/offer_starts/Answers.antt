@@ -1,6 +1,6 @@
 use Rattle.std.proofs.Common.{below_more, slice_index}
 use Rattle.product_search.specs.inside.Exploring.{IsStartAt, IsStartAmong}
-use Rattle.product_search.proofs.OfferLemmas.{offers_more, offers_weaker, settled_keeps, start_keeps, start_among}
+use Rattle.product_search.proofs.OfferLemmas.{offers_more, offers_weaker, start_keeps, start_among}
 use Rattle.product_search.proofs.start.offer_starts.Goals as goal
 
 pub loop-node-preserved : goal.loop-node-preserved
@@ -9,14 +9,13 @@ loop-node-preserved g c =
     let old = c.loop-node.frontier in
     let new = c.offer_start.new.frontier in
     let starts = c.args.starts.now in
-    let P = IsStartAt labels (slice_index starts c.loop-node.node-index) c.args.dep in
-    let Q = IsStartAmong labels starts c.args.dep in
-    let offers = offers_weaker old new P Q (λ w r x is. start_among labels starts c.args.dep c.loop-node.node-index w r x c.loop-node-test.true is) c.in_ok-offer_start.ensures.offers in
+    let i = c.loop-node.node-index in
+    let P = IsStartAt labels (slice_index starts i) in
+    let Q = IsStartAmong labels starts in
+    let offers = offers_weaker old new P Q (λ w r x is. start_among labels starts i w r x c.loop-node-test.true is) c.in_ok-offer_start.ensures.offers in
     record {
       right = c.in_ok-offer_start.ensures.right;
-      settled = settled_keeps old new Q offers c.args.dep c.loop-node.invariant.settled;
       offers = offers_more c.args.frontier.now old new Q c.loop-node.invariant.offers offers;
-      reached = below_more _ _
-          (λ k below. start_keeps labels old new Q offers c.args.dep (slice_index starts k) (c.loop-node.invariant.reached k below))
+      reached = below_more _ _ (λ k below. start_keeps labels old new Q offers (slice_index starts k) (c.loop-node.invariant.reached k below))
           c.in_ok-offer_start.ensures.reached;
     }

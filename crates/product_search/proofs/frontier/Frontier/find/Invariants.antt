@@ -1,5 +1,5 @@
 use Rattle.product_search.specs.inside.Waiting.{rows}
-use Rattle.product_search.proofs.QueueLemmas.{IsSought}
+use Rattle.product_search.proofs.FrontierLemmas.{IsSought}
 use Rattle.product_search.proofs.frontier.Frontier.find.Given as goal
 
 abbrev pub invariant-chain : goal.invariant-chain

@@ -1,47 +1,50 @@
-use Rattle.std.proofs.Common.{true, false, length, refl, ◌∙◌, ap, arith}
+use Rattle.std.proofs.Common.{◌≡◌, ◌<◌, length, refl, sym, ◌∙◌, ap, arith, ◌++◌, ◌∷◌, []}
+use Rattle.std.specs.Prelude.{Some, slice_get}
+use Rattle.std.specs.Vec.{with_item}
 use Rattle.std.proofs.lemmas.List.{length-set}
-use Rattle.product_search.specs.inside.Waiting.{rows, told}
-use Rattle.product_search.proofs.QueueLemmas.{better_here, changes_rewritten, indexed_links, kept_here, links_set, offered_kept, offered_set, right_put, taken_at, within}
+use Rattle.std.proofs.lemmas.Option.{slice_get_read, slice_get_within}
+use Rattle.std.proofs.lemmas.Result.{on_ok_weaker}
+use Rattle.product_search.specs.declared.row.Row.{Row}
+use Rattle.product_search.specs.declared.frontier.Frontier.{Frontier}
+use Rattle.product_search.specs.inside.Waiting.{rows, ways}
+use Rattle.product_search.proofs.FrontierLemmas.{TakesWay, Changes, changes_set, indexed_set, offers_taken, reached_taken, right_taken, same_element}
 use Rattle.product_search.proofs.frontier.Frontier.improve.Goals as goal
 
-pub is_later-requires-clause-there : goal.is_later-requires-clause-there
-is_later-requires-clause-there c = within (rows c.args.self.now) c.args.node c.args.state c.args.number c.requires.there
-
-pub write-requires-clause-there : goal.write-requires-clause-there
-write-requires-clause-there c = within (rows c.args.self.now) c.args.node c.args.state c.args.number c.requires.there
-
-pub wait-requires-clause-soon : goal.wait-requires-clause-soon
-wait-requires-clause-soon c = taken_at c.args.self.now c.args.entry c.args.at c.requires.right c.requires.at
-
-pub returns-in_ok-wait-clause-right : goal.returns-in_ok-wait-clause-right
-returns-in_ok-wait-clause-right c =
+pub returns : goal.returns
+returns c =
     let old = c.args.self.now in
-    let new = record old { rows = c.write.new.self; queue = c.wait.new.queue } in
-    let way = told old c.args.entry in
-    let row = (c.requires.there).row in
-    let set = c.write.ensures.rows row c.requires.there.known in
-    let changes = changes_rewritten (rows old) (rows new) c.args.number c.args.node c.args.state way c.requires.right.apart c.requires.there set in
-    let size = ap length set ∙ length-set (rows old) c.args.number (record row { known = way }) in
-    right_put old new c.args.number c.args.node c.args.state row.next way c.requires.right changes (rw c.requires.at at c.in_ok-wait.ensures)
-    (indexed_links old.chains.count (rows old) (rows new) old.first.items c.requires.right.indexed size
-    (links_set old.chains.count (rows old) (rows new) c.args.number c.args.node c.args.state row.next way c.requires.there refl changes))
-    c.write.ensures.base (omega (arith, size, c.requires.right.few))
-
-pub returns-in_ok-wait-clause-offered : goal.returns-in_ok-wait-clause-offered
-returns-in_ok-wait-clause-offered c =
-    let old = c.args.self.now in
-    let new = record old { rows = c.write.new.self; queue = c.wait.new.queue } in
-    let way = told old c.args.entry in
-    let row = (c.requires.there).row in
-    let changes = changes_rewritten (rows old) (rows new) c.args.number c.args.node c.args.state way c.requires.right.apart c.requires.there (c.write.ensures.rows row c.requires.there.known) in
-    let is = c.if-is_later.ensures row c.requires.there.known in
-    offered_set old new c.args.number c.args.node c.args.state row.next way changes c.requires.right.apart
-    (better_here old c.requires.right c.args.node c.args.state c.args.number c.requires.there true way (rw c.requires.at at is) refl)
-
-pub returns-else-is_later-clause-offered : goal.returns-else-is_later-clause-offered
-returns-else-is_later-clause-offered c =
-    let f = c.args.self.now in
-    let way = told f c.args.entry in
-    let is = c.if-is_later.ensures ((c.requires.there).row) c.requires.there.known in
-    offered_kept f c.args.node c.args.state way
-    (kept_here f c.requires.right c.args.node c.args.state c.args.number c.requires.there false way (rw c.requires.at at is) refl)
+    let v = c.args.node in
+    let q = c.args.state in
+    let n = c.args.number in
+    let way = c.args.way in
+    let row = c.index_mut-row.result.now in
+    let x : Row = record row { way = c.in_ok-link.link; delay = way.delay } in
+    let new : Frontier = record old { rows = with_item old.rows n x; ways = c.push.new.self; queue = c.push-2.new.self } in
+    let last : x.way ≡ length (ways old) = c.in_ok-link.ensures.count ∙ c.len.ensures ∙ old.ways.ok.0 in
+    let within : n < length (rows old) = slice_get_within (rows old) n c.requires.there.row c.requires.there.known in
+    let known : slice_get (rows old) n ≡ Some row = slice_get_read (rows old) (length (rows old)) n row refl within c.index_mut-row.ensures.value in
+    let there : c.requires.there.row ≡ row = same_element Row (rows old) n c.requires.there.row row c.requires.there.known known in
+    let read = slice_get_read (rows old) (length (rows old)) n c.index.result.now refl within c.index.ensures in
+    let same = ap (λ (y : Row). y.delay) (same_element Row (rows old) n c.index.result.now row read known) in
+    let size : length (rows new) ≡ length (rows old) = length-set (rows old) n x in
+    let changes : Changes (rows old) (rows new) n x =
+    changes_set (rows old) n x row c.requires.right.apart known (record { node = refl; state = refl; delay = omega arith }) in
+    let takes : TakesWay old new n v q x way = record {
+      base = refl;
+      until = refl;
+      changes = changes;
+      node = sym (ap (λ (y : Row). y.node) there) ∙ c.requires.there.node;
+      state = sym (ap (λ (y : Row). y.state) there) ∙ c.requires.there.state;
+      added = c.in_ok-push.ensures.items ∙ ap (λ w. ways old ++ w ∷ []) c.taken_by.ensures;
+      last = last;
+      delay = refl;
+      soon = c.requires.soon;
+      few = omega (arith, size, c.requires.right.few);
+      few_ways = omega (arith, last, c.in_ok-link.ensures.small);
+    } in
+    let indexed = indexed_set (rows old) (rows new) n x changes old.chains.count old.first.items c.requires.right.indexed row known refl size in
+    record {
+      right = on_ok_weaker c.push-2.result (λ puts. right_taken old new n v q x way takes puts c.requires.right indexed) c.push-2.ensures;
+      offers = on_ok_weaker c.push-2.result (λ puts. offers_taken old new n v q x way takes puts) c.push-2.ensures;
+      reached = on_ok_weaker c.push-2.result (λ puts. reached_taken old new n v q x way takes) c.push-2.ensures;
+    }

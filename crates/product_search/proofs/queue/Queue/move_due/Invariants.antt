@@ -1,10 +1,15 @@
-use Rattle.std.proofs.Common.{◌-◌}
-use Rattle.std.specs.Prelude.{vec_len}
-use Rattle.product_search.proofs.HeapLemmas.{IsMoving}
+use Rattle.std.proofs.Common.{◌≡◌, ◌-◌, vec_len}
+use Rattle.std.specs.List.{AllWithin}
+use Rattle.product_search.specs.inside.Queued.{AreBuckets, IsPast, Moves}
 use Rattle.product_search.proofs.queue.Queue.move_due.Given as goal
 
 abbrev pub invariant-due : goal.invariant-due
-invariant-due l = IsMoving l.fn.self l.self l.i
+invariant-due l = record {
+  right : AreBuckets l.self;
+  moves : Moves l.fn.self l.self;
+  start : l.self.start ≡ l.fn.self.start;
+  past : AllWithin (IsPast l.self) l.self.later.items 0 l.i;
+}
 
 abbrev pub decreases-due : goal.decreases-due
 decreases-due l = vec_len l.self.later - l.i

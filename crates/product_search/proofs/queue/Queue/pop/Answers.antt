@@ -1,22 +1,19 @@
-use Rattle.std.proofs.Common.{subst}
-use Rattle.std.specs.Prelude.{Option, None, Some, IfNone}
-use Rattle.std.proofs.lemmas.Option.{IfSome_then}
-use Rattle.product_search.specs.inside.Queued.{GivesLeast, time_of}
-use Rattle.product_search.proofs.HeapLemmas.{least_of_same, none_of_same}
+use Rattle.std.proofs.Common.{sym, subst, ap, arith, length}
+use Rattle.std.proofs.lemmas.Grind.{common_steps}
+use Rattle.product_search.specs.inside.Queued.{Turns}
+use Rattle.product_search.proofs.QueueLemmas.{given, none_given, some_in_turn}
 use Rattle.product_search.proofs.queue.Queue.pop.Goals as goal
+use Rattle.product_search.proofs.queue.Queue.pop.Goals.{then-is_empty+in_ok-next_bucket, else-is_empty}
+
+turned : (c : goal.After-pop) → Turns c.args.self.now c.if-is_empty.self c.args.until
+turned c = elim c.if-is_empty.branch [
+  | then-is_empty+in_ok-next_bucket w ↦ subst (λ q. Turns c.args.self.now q c.args.until) (sym w.self-is) w.in_ok-next_bucket.ensures
+  | else-is_empty w ↦ subst (λ q. Turns c.args.self.now q c.args.until) (sym w.self-is)
+      (some_in_turn c.args.self.now c.args.until c.requires (λ e. grind (arith, common_steps, c.is_empty.ensures, w.if-is_empty.false, ap length e)))
+]
 
 pub returns-clause-some : goal.returns-clause-some
-returns-clause-some c =
-    let old = c.args.self.now in
-    let mid = c.fill.new.self in
-    let new = c.pop_first.new.self in
-    let same = c.in_ok-fill.ensures.same in
-    IfSome_then c.pop_first.result c.pop_first.ensures.some (λ x gives. least_of_same old mid new same (time_of old.base x.0) x.1
-    (subst (λ base. GivesLeast mid new (time_of base x.0) x.1) same.base gives))
-
-IfNone_then : {X : Type 0} (r : Option X) {P Q : Type 0} → IfNone r P → (P → Q) → IfNone r Q
-IfNone_then None holds then' = then' holds
-IfNone_then (Some x) holds then' = tt
+returns-clause-some c = given c.args.self.now c.if-is_empty.self c.args.until c.pop.new.self (turned c) c.pop.result c.pop.ensures.items
 
 pub returns-clause-none : goal.returns-clause-none
-returns-clause-none c = IfNone_then c.pop_first.result c.pop_first.ensures.none (none_of_same c.args.self.now c.fill.new.self c.pop_first.new.self c.in_ok-fill.ensures.same)
+returns-clause-none c = none_given c.args.self.now c.if-is_empty.self c.args.until c.pop.new.self (turned c) c.pop.result c.pop.ensures.cases

@@ -1,7 +1,7 @@
 use Rattle.std.proofs.Common.{◌≡◌, ℕ, ◌-◌, ◌<◌, ◌∙◌, length, set, Option, Some, None, ap, sym, subst, arith}
 use Rattle.std.specs.Prelude.{slice_index_or}
 use Rattle.std.proofs.lemmas.List.{get_or_default}
-use Rattle.product_search.specs.inside.Noting.{IsNoted, first_time}
+use Rattle.product_search.specs.inside.Noting.{IsNoted, earlier}
 use Rattle.product_search.proofs.NotingLemmas.{noted_at}
 use Rattle.product_search.proofs.targets.Noted.note.Goals as goal
 
@@ -11,7 +11,7 @@ returns-then-place-gt0-clause-noted c =
     let old = c.args.self.now.times.items in
     let p = c.place-place.result in
     let within : p - 1 < length old = omega (arith, c.place-place.ensures.within, c.requires) in
-    let value : c.first_time-time.result ≡ first_time (slice_index_or old (p - 1) None) c.args.at =
-    c.first_time-time.ensures ∙ ap (λ (o : Option ℕ). first_time o c.args.at) (c.index.ensures ∙ get_or_default old (p - 1) c.index.result.now None within) in
+    let value : c.earlier-time.result ≡ earlier (slice_index_or old (p - 1) None) c.args.at =
+    c.earlier-time.ensures ∙ ap (λ (o : Option ℕ). earlier o c.args.at) (c.index.ensures ∙ get_or_default old (p - 1) c.index.result.now None within) in
     subst (λ (t : ℕ). IsNoted places old (set old (p - 1) (Some t)) c.args.node c.args.at) (sym value)
     (noted_at c.args.targets.now.nodes.items places old c.args.node c.args.at p c.args.targets.now.placed c.requires c.place-place.ensures.place c.if-place-gt0.true)

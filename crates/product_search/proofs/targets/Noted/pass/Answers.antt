@@ -16,4 +16,5 @@ pass-preserved c =
     record {
       reached = reached_more nodes places times p c.in-Some.field-0 c.pass.invariant.reached (ap (time_of places times) node ∙ sym c.time_of.ensures ∙ c.in-Some.is);
       same = c.pass.invariant.same;
+      latest = c.pass.invariant.latest;
     }

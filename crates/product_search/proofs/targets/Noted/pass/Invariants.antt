@@ -6,6 +6,7 @@ abbrev pub invariant-pass : goal.invariant-pass
 invariant-pass l = record {
   reached : AreReached l.targets.nodes.items l.targets.places.items l.self.times.items l.self.passed;
   same : l.self.times.items ≡ l.fn.self.times.items;
+  latest : l.self.latest ≡ l.fn.self.latest;
 }
 
 abbrev pub decreases-pass : goal.decreases-pass

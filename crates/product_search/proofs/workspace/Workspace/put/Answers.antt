@@ -1,6 +1,5 @@
-use Rattle.product_search.specs.inside.Waiting.{rows}
-use Rattle.product_search.proofs.QueueLemmas.{behind_first}
+use Rattle.std.proofs.Common.{arith}
 use Rattle.product_search.proofs.workspace.Workspace.put.Goals as goal
 
 pub cleared-first-requires : goal.cleared-first-requires
-cleared-first-requires c = let f = c.args.frontier in behind_first f.chains.count (rows f) f.first.items c.requires.indexed
+cleared-first-requires c = rw c.deref.ensures.value (λ v k is. (let p = (c.requires.indexed.first_of v).there k is in (k, omega arith, p.1, p.2, p.3)))
