@@ -1,10 +1,10 @@
 -- The parts of an expression in memory, written out.
-use Rattle.std.proofs.Common.{◌≡◌, ℕ, suc, ◌-◌, ◌<◌, ◌≤◌, List, [], ◌∷◌, length, get_or, drop, map, Some, None, Vec, Global, Box, sym, ap, ◌∙◌, drop-cons, arith}
+use Rattle.std.proofs.Common.{◌≡◌, ℕ, suc, ◌-◌, ◌<◌, ◌≤◌, List, [], ◌∷◌, length, get_or, drop, map, Vec, Global, sym, ap, ◌∙◌, drop-cons, arith}
 use Rattle.std.proofs.Math.Seq.{drop-length}
-use Rattle.mode_expression.specs.declared.expr.Expr.{Expr, Seq, Alt, Repeat}
+use Rattle.mode_expression.specs.declared.expr.Expr.{Expr, Seq, Alt}
 use Rattle.mode_expression.specs.Form.{form_of, in_turn, one_of}
 use Rattle.mode_expression.proofs.FormLemmas.{form_seq, form_alt}
-use Rattle.automaton.specs.Written.{written, copies_in_turn, options, unbounded, repeat, sequence}
+use Rattle.automaton.specs.Written.{written}
 
 pub written_seq : (expr : Expr) (parts : Vec Expr Global) (items : List Expr) → expr ≡ Seq parts → items ≡ parts.items
     → written (in_turn (map form_of items)) ≡ written (form_of expr)

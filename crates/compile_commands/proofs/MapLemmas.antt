@@ -11,8 +11,7 @@ use Rattle.run_steps.specs.declared.outcome.FileRole.TheVariants as role
 use Rattle.run_steps.specs.declared.outcome.Outcome.{Outcome}
 use Rattle.run_steps.specs.declared.outcome.Outcome.TheVariants.{Done, Usage, Missing, ReadFault, TooLong, WriteFault, BadRegion, BadFeed, Invalid, BadCertificate, BadHierarchy, Unsound, OutOfMemory}
 use Rattle.run_steps.specs.declared.outcome.SourceFault.TheVariants as source
-use Rattle.run_steps.specs.Sayings.{IsUnread, most_bytes}
-use Rattle.run_steps.proofs.Steps.{unread_before}
+use Rattle.run_steps.specs.Sayings.{most_bytes}
 use Rattle.compile_commands.specs.Maps.{BeginsSo}
 use Rattle.compile_commands.specs.inside.Working.{HasFed, IsEndOutcome, IsMapOutcome, IsPieceRefusal}
 

@@ -1,6 +1,6 @@
 -- Before any contraction each road arc is an entry.
 use Rattle.std.proofs.Common.{◌≡◌, ℕ, ◌+◌, ◌<◌, ◌≤◌, ◌^◌, inl, inr, true, not, nat_eq, List, [], ◌∙◌, length, take, get_or, Some, None, refl, sym, ap, subst, arith}
-use Rattle.std.specs.Prelude.{Option, All, AllPairs, Contains, Vec, slice_get}
+use Rattle.std.specs.Prelude.{Option, All, Vec, slice_get}
 use Rattle.std.specs.declared.alloc.Global.{Global}
 use Rattle.std.proofs.lemmas.Bool.{and_parts, eqb-false, not-true}
 use Rattle.std.proofs.lemmas.Bool.Decides.{nat_tests}
@@ -20,9 +20,9 @@ use Rattle.hierarchy.specs.Soundness.{HasEntry, FitsLayer, MayStandAt, NodeIsBri
 use Rattle.witness.specs.declared.edge.Edge.{Edge}
 use Rattle.witness.specs.Rows.{row_at, items_of}
 use Rattle.contractor.specs.declared.layer.Layer.{Layer}
-use Rattle.contractor.specs.inside.Partway.{IsPut, HaveOtherEnds}
+use Rattle.contractor.specs.inside.Partway.{IsPut}
 use Rattle.contractor.specs.inside.Layers.{IsLayer, IsState, AreArcs, AreEmptyLists, IsEntryPlaced, FitsRows, AreWalks, into_at, nodes_in, lists_of}
-use Rattle.contractor.proofs.ListLemmas.{none_in, contains_place}
+use Rattle.contractor.proofs.ListLemmas.{contains_place}
 use Rattle.contractor.proofs.PutLemmas.{put_is, put_layer}
 use Rattle.contractor.proofs.SimpleLemmas.{road}
 

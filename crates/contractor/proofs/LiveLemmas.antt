@@ -5,7 +5,7 @@ use Rattle.std.proofs.lemmas.Bool.{cases_lt}
 use Rattle.std.proofs.lemmas.List.{length_push}
 use Rattle.std.proofs.lemmas.List.Elements.{All-contains}
 use Rattle.hierarchy.specs.Hops.{Hop, AreHops, AreHigh, total, nodes_along}
-use Rattle.hierarchy.specs.Lists.{HierarchyLists, height_in, IsCore, IsContracted}
+use Rattle.hierarchy.specs.Lists.{HierarchyLists, height_in, IsCore}
 use Rattle.hierarchy.specs.Soundness.{HasEntry, HasLighter, IsBridged}
 use Rattle.hierarchy.proofs.HeightLemmas.{height_most}
 use Rattle.hierarchy.proofs.ContractionLemmas.{height_kept, height_next, height_other}

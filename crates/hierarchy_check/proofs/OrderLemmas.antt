@@ -1,9 +1,9 @@
 -- Which node may stand at a place of the order, by those that were met before.
-use Rattle.std.proofs.Common.{◌≡◌, ℕ, ◌+◌, ◌<◌, ◌==◌, ◌||◌, Bool, true, false, not, nat_eq, List, ◌++◌, length, get_or, set, replicate, Some, inl, inr, refl, sym, ◌∙◌, subst, arith}
+use Rattle.std.proofs.Common.{◌≡◌, ℕ, ◌+◌, ◌<◌, ◌==◌, ◌||◌, Bool, true, false, not, nat_eq, List, ◌++◌, length, get_or, set, Some, inl, inr, refl, sym, ◌∙◌, subst, arith}
 use Rattle.std.specs.Prelude.{All, IsTrue, ◌↔◌, slice_get}
 use Rattle.std.proofs.lemmas.Bool.{false≢true, both_ways, not-true, not_from_false, eqb-true, eqb-false, eq-eqb, ne_eqb, or_from, or_left, or_right, cases_lt, cases_Bool}
 use Rattle.std.proofs.lemmas.Option.{option_and_then_some, slice_get_within}
-use Rattle.std.proofs.lemmas.List.{length-append, get_or-replicate, get_or_past, get_or-set_same, get_or-set_other, length-set, length-replicate}
+use Rattle.std.proofs.lemmas.List.{length-append, get_or-set_same, get_or-set_other, length-set}
 use Rattle.std.proofs.lemmas.List.Folds.{list_any_none, list_any_at}
 use Rattle.plan_base.specs.declared.modes.Mode.{Mode}
 use Rattle.mode_network.specs.declared.nodes.Arc.{Arc}

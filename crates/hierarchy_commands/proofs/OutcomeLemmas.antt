@@ -6,15 +6,13 @@ use Rattle.plan_base.specs.Sinks.{SinkMeaning, Stays}
 use Rattle.mode_network.specs.NetworkLists.{NetworkLists}
 use Rattle.hierarchy.specs.Lists.{HierarchyLists}
 use Rattle.hierarchy.specs.Soundness.{IsSound}
-use Rattle.hierarchy_file.specs.declared.fault.HFileFault.{HFileFault}
 use Rattle.hierarchy_file.specs.declared.fault.HFileFault.TheVariants as no
-use Rattle.hierarchy_file.specs.Causes.{IsRefusedHierarchy}
 use Rattle.run_steps.specs.declared.outcome.Outcome.{Outcome}
 use Rattle.run_steps.specs.declared.outcome.Outcome.TheVariants.{Done, Usage, Missing, ReadFault, TooLong, WriteFault, BadRegion, BadFeed, Invalid, BadCertificate, BadHierarchy, Unsound, OutOfMemory}
 use Rattle.run_steps.specs.Scene.{scene}
 use Rattle.run_steps.specs.Sayings.{Saying}
 use Rattle.hierarchy_commands.specs.Commands.{OnSound, OnHierarchy, OnHierarchyIfNamed}
-use Rattle.hierarchy_commands.specs.Working.{AreUnsound, hierarchy_outcome, HasSound, HasUnsound, IsHierarchyOutcome, IsFoundSound, IsNamedOutcome}
+use Rattle.hierarchy_commands.specs.Working.{AreUnsound, HasSound, HasUnsound, IsHierarchyOutcome, IsFoundSound, IsNamedOutcome}
 
 module _ (old mid new : ShelfMeaning) (before after : SinkMeaning) (name : List ℕ) (n : NetworkLists) where
   -- the bytes of a hierarchy spell none that is sound

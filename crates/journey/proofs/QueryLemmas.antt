@@ -26,7 +26,7 @@ use Rattle.journey.specs.declared.endpoints.Lack.TheVariants.{Unknown, Far}
 use Rattle.journey.specs.declared.fault.QueryFault.{QueryFault}
 use Rattle.journey.specs.declared.fault.QueryFault.TheVariants.{BadClock, OutOfRange}
 use Rattle.journey.specs.Shapes.{Shape, shape_of, time_at, departure_on, departs_on, departs_at}
-use Rattle.journey.specs.Faults.{fault_of, origin_fault, destination_fault}
+use Rattle.journey.specs.Faults.{fault_of, destination_fault}
 use Rattle.journey.specs.Queries.{IsRefusal, ReachesExpression, IsKnown, IsUnknown, IsFar, IsLack}
 
 err_is : {a b : QueryFault} → (let r : Result ℕ QueryFault = Err a in r) ≡ Err b → a ≡ b

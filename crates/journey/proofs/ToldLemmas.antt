@@ -1,5 +1,5 @@
 -- What the telling of a journey keeps from step to step.
-use Rattle.std.proofs.Common.{◌≡◌, ℕ, ◌+◌, ◌*◌, ◌^◌, ◌<◌, ◌∙◌, List, [], ◌∷◌, ◌++◌, length, take, drop, Option, Some, None, refl, ap, sym, subst, arith, append-nil, suc, add-one, drop-cons}
+use Rattle.std.proofs.Common.{◌≡◌, ℕ, ◌+◌, ◌*◌, ◌^◌, ◌<◌, ◌∙◌, List, [], ◌∷◌, ◌++◌, length, take, drop, Option, Some, None, ap, sym, subst, append-nil, suc, add-one, drop-cons}
 use Rattle.std.specs.Prelude.{option_to_list, slice_index_or, All}
 use Rattle.std.proofs.lemmas.List.{take_more}
 use Rattle.search_laws.specs.Times.{time_bound}

@@ -7,7 +7,7 @@ use Rattle.plain_texts.specs.Lines.{words_of, spaced}
 use Rattle.plain_texts.specs.Numbers.{number_at}
 use Rattle.plain_texts.proofs.Spaced.{spaced-words_of, words_of-spaced, word_by_test, decimal_is_word}
 use Rattle.certificate.specs.declared.lines.Line.{Line as UsualLine}
-use Rattle.certificate.specs.Kinds.{behind_query, by_first_word, head_of_words, line_of_kind, label_of_words, label_or_kind, line_of_words, query_or_words, time_of_word, number_of_word}
+use Rattle.certificate.specs.Kinds.{behind_query, head_of_words, line_of_kind, label_of_words, line_of_words, query_or_words, time_of_word}
 use Rattle.certificate.specs.Kinds as usual
 use Rattle.certificate.specs.Lines.{IsTime}
 use Rattle.certificate.proofs.KindLaws.{mapped, same_bytes, time_takes, time_again, line_takes as usual_takes, line_again as usual_again}

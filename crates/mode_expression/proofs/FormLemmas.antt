@@ -1,10 +1,10 @@
 -- The form of an expression in memory, by its parts.
-use Rattle.std.proofs.Common.{◌≡◌, ◌≢◌, ℕ, List, [], ◌∷◌, ◌++◌, length, map, reverse, Vec, Global, Box, Option, refl, sym, ap, ◌∙◌, append_assoc, append-nil}
+use Rattle.std.proofs.Common.{◌≡◌, ◌≢◌, List, [], ◌∷◌, ◌++◌, length, map, reverse, Vec, Global, refl, sym, ap, ◌∙◌, append_assoc, append-nil}
 use Rattle.std.proofs.lemmas.List.{length-map, map-append, reverse-append, reverse-reverse}
 use Rattle.std.proofs.lemmas.Grind.{reverse_onto}
 use mathlib.Core.Former.{Count}
-use Rattle.mode_expression.specs.declared.expr.Expr.{Expr, Seq, Seq', Alt, Alt', Repeat, Row_of-Expr, end_of-Expr, more_of-Expr, items-the_row-Expr, items_hidden-the_row-Expr-0}
-use Rattle.mode_expression.specs.Form.{Form, form_of, form_in_turn, form_of_one, in_turn, one_of, both, either, repeated}
+use Rattle.mode_expression.specs.declared.expr.Expr.{Expr, Seq, Seq', Alt, Alt', Row_of-Expr, end_of-Expr, more_of-Expr, items-the_row-Expr, items_hidden-the_row-Expr-0}
+use Rattle.mode_expression.specs.Form.{Form, form_of, form_in_turn, form_of_one, in_turn, one_of, both, either}
 use Rattle.mode_expression.specs.Grammar.{sequence, alternative}
 use Rattle.mode_expression.specs.inside.Machine.{Frame, in_order_onto, with_choice, group_of}
 use Rattle.mode_expression.specs.inside.Views.{latest}

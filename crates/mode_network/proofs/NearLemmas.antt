@@ -1,7 +1,7 @@
 -- The nearest road node of a place has one id and one length.
 use Rattle.std.proofs.Common.{◌≡◌, ℕ, ℤ, pos, ◌≤◌, ◌<◌, ◌≤ℤ◌, ◌^◌, ◌-◌, List, [], ◌∷◌, ◌++◌, Option, Some, None, arith, ap, subst, sym, refl, ap₂, true, ◌&&◌, int_eq, ◌∙◌, ◌+◌, take, length, get_or}
 use Rattle.std.specs.Prelude.{Contains, All}
-use Rattle.std.proofs.lemmas.List.Elements.{All-contains, All-nil, All-push, All-weaker, Contains-append_left, Contains-push}
+use Rattle.std.proofs.lemmas.List.Elements.{All-contains, All-push, All-weaker, Contains-append_left, Contains-push}
 use Rattle.std.specs.List.Sorted.{IsPermutation}
 use Rattle.std.proofs.lemmas.List.Sorted.{All-permutation, Contains-permutation}
 use Rattle.std.proofs.lemmas.List.{take_more, map-append}

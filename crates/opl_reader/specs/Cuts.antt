@@ -1,5 +1,5 @@
 -- How a line is cut.
-use Rattle.std.specs.Prelude.{ℕ, ◌+◌, List, take, drop, position, Bool, ◌==◌, ◌||◌, Option, option_map}
+use Rattle.std.specs.Prelude.{ℕ, ◌+◌, List, position, Bool, ◌==◌, ◌||◌, Option, option_map}
 use Rattle.std.specs.List.{slice_split}
 use Rattle.plain_texts.specs.Lines.{around}
 

@@ -5,7 +5,7 @@ use Rattle.plain_texts.specs.Lines.{lines_text, with_feed}
 use Rattle.plan_base.specs.Sinks.{SinkMeaning, Stays}
 use Rattle.plan_base.proofs.MoreWritten.{appended_nothing, appended_stays, appended_twice}
 use Rattle.run_steps.specs.QueryLines.{as_query, without_return, queries_among}
-use Rattle.run_steps.specs.Blocks.{BlockRule, AreBlocks, WroteBlocks, BeginsBlocks, BeginsNext, WroteFront, WrotePart, AreCounted}
+use Rattle.run_steps.specs.Blocks.{BlockRule, AreBlocks, WroteBlocks, BeginsNext, WroteFront, WrotePart, AreCounted}
 
 pub queries_join : (xs ys : List (List ℕ)) → queries_among (xs ++ ys) ≡ queries_among xs ++ queries_among ys
 queries_join [] ys = refl

@@ -5,7 +5,6 @@ use Rattle.std.proofs.Math.Seq.{drop-append_seam}
 use Rattle.std.proofs.lemmas.List.{nil_from_length, take-append-drop}
 use Rattle.std.proofs.lemmas.List.Elements.{All-append, All-cons, All-nil}
 use Rattle.plain_texts.specs.Lines.{IsLine, lines_of, lines_text}
-use Rattle.plan_base.specs.Counts.{Rose}
 use Rattle.plan_base.specs.ReadFaults.{read_fault_of}
 use Rattle.plan_base.specs.declared.reading.ReadFault.TheVariants as cause
 use Rattle.std.proofs.lemmas.Bool.Decides.{nat_tests}
@@ -21,7 +20,7 @@ use Rattle.run_steps.specs.Scene.{Scene, scene}
 use Rattle.plan_base.proofs.MoreWritten.{stays_so}
 use Rattle.run_steps.specs.Sayings.{Saying}
 use Rattle.run_steps.specs.QueryLines.{queries_among, query_lines}
-use Rattle.run_steps.specs.Blocks.{BlockRule, AreBlocks, WroteBlocks, WroteFront, AreCounted}
+use Rattle.run_steps.specs.Blocks.{BlockRule, AreBlocks, WroteBlocks, AreCounted}
 use Rattle.run_steps.specs.inside.BlockCauses.{IsBlocksOutcome}
 use Rattle.run_steps.specs.InTurn.{HasAnswered, InTurn, HasReadLines, HasReadTo, IsLost, IsReadTo, IsShort, StopsInTurn}
 use Rattle.run_steps.specs.inside.TurnCauses.{AreAnswered, AreEnded, IsBegun, IsPieceOutcome, IsSumWith, IsUpToDate, fault_at}

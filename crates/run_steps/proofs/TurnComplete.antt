@@ -5,7 +5,6 @@ use Rattle.std.proofs.Math.Seq.{drop-append_seam}
 use Rattle.std.proofs.lemmas.List.Elements.{All-drop, All-head}
 use Rattle.plain_texts.specs.Lines.{lines_of, lines_text}
 use Rattle.run_steps.specs.declared.outcome.FileRole.{FileRole}
-use Rattle.run_steps.specs.declared.outcome.Outcome.{Outcome}
 use Rattle.run_steps.specs.declared.outcome.Outcome.TheVariants.{Done, Usage, Missing, ReadFault, TooLong, WriteFault, BadRegion, BadFeed, Invalid, BadCertificate, BadHierarchy, Unsound, OutOfMemory}
 use Rattle.run_steps.specs.Sayings.{Saying, Ends}
 use Rattle.run_steps.specs.Blocks.{BlockRule}

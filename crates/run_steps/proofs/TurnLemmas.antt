@@ -2,8 +2,8 @@
 use Rattle.std.proofs.Common.{◌≡◌, ℕ, ◌+◌, ◌≤◌, ◌∙◌, List, [], ◌∷◌, ◌++◌, append_assoc, append-nil, Some, refl, ap, sym, subst}
 use Rattle.std.specs.Prelude.{All}
 use Rattle.std.proofs.lemmas.List.Elements.{All-nil, All-cons, All-append}
-use Rattle.plain_texts.specs.Lines.{IsLine, is_feed, lines_text}
-use Rattle.plan_base.specs.Sinks.{SinkMeaning, Stays}
+use Rattle.plain_texts.specs.Lines.{IsLine, lines_text}
+use Rattle.plan_base.specs.Sinks.{SinkMeaning}
 use Rattle.plan_base.proofs.MoreWritten.{stays_so}
 use Rattle.run_steps.specs.declared.outcome.FileRole.{FileRole}
 use Rattle.run_steps.specs.declared.outcome.Outcome.{Outcome}
@@ -11,7 +11,7 @@ use Rattle.run_steps.specs.declared.outcome.Outcome.TheVariants.{Done, Usage, Mi
 use Rattle.run_steps.specs.QueryLines.{as_query, queries_among, without_return}
 use Rattle.run_steps.specs.inside.BlockCauses.{IsBlockOutcome, IsBlocksOutcome}
 use Rattle.run_steps.specs.Blocks.{BlockRule, WroteBlocks, WroteFront, AreCounted}
-use Rattle.run_steps.specs.InTurn.{IsReadTo, IsShort, WroteFor}
+use Rattle.run_steps.specs.InTurn.{IsReadTo, IsShort}
 use Rattle.run_steps.specs.inside.TurnCauses.{AreAnswered, IsKeepOutcome, IsLineOutcome, IsPieceOutcome}
 use Rattle.run_steps.proofs.Steps.{rose_over}
 use Rattle.run_steps.proofs.JoinLemmas.{counted_join, queries_join, query_alone, text_join, wrote_none, wrote_nothing, wrote_on, wrote_part, wrote_stays, wrote_twice}
