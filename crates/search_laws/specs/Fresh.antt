@@ -70,6 +70,10 @@ pub record AreMoving (v t leaving : ℕ) (ways moving : List Way) : Type 0 where
   pub are : All (Contains ways) moving
   pub rest : All (λ way. Contains moving way ⊎ StandsStill v t leaving way) ways
 
+-- a visit to the node v at t, in the state q
+abbrev pub visit_by : ℕ → ℕ → ℕ → ℕ → ℕ → Visit
+visit_by v t q letters leaving = record { node = v; at = t; state = q; letters = letters; leaving = leaving }
+
 -- a list goes on with what is fresh of those that move
 abbrev pub AddsMoving : RunRides → Visit → GivenRuns → GivenRuns → List Way → List Way → List Way → Type 0
 AddsMoving rides visit old new ways before after =

@@ -1,10 +1,11 @@
 //! Time-dependent graphs that never let a later start arrive earlier.
 
-ghost use Rattle.std.specs.Prelude.{◌≡◌, ℕ, ◌<◌, ◌≤◌, ◌^◌, ◌++◌, [], OnOk, IfSome, length, slice_index_or};
+ghost use Rattle.std.specs.Prelude.{◌≡◌, ℕ, ◌<◌, ◌≤◌, ◌^◌, ◌++◌, [], false, OnOk, IfSome, length, slice_index_or};
 ghost use Rattle.search_laws.specs.GraphLaws.{GraphMeaning, IsLawfulGraph};
 ghost use Rattle.search_laws.specs.Letters.{IsLetter};
 ghost use Rattle.search_laws.specs.Ways.{IsLeg, is_open, moving_letters, open_way, ways_past};
-ghost use Rattle.search_laws.specs.Fresh.{RunRides, AddsMoving};
+ghost use Rattle.search_laws.specs.Fresh.{RunRides, AddsMoving, visit_by};
+ghost use Rattle.search_laws.specs.declared.given.GivenRuns.{GivenRuns};
 
 use crate::Time;
 use crate::given::GivenRuns;
@@ -158,6 +159,19 @@ pub trait Graph {
 
     /// The rides of a run of a line to the calls behind one, wherever they stand. A graph may have no lines.
     ghost rides: { Self → RunRides } = { λ _ _ _ _. [] };
+
+    /// Whether [`fresh_ways`](Self::fresh_ways) may append something at a visit to the node `v` that asks for these letters, where
+    /// moves by those of `leaving` lead to another state. Where not, a search need not ask for them. A graph may always say so.
+    #[inline(always)]
+    fn may_have_fresh(&self, v: u32, letters: u32, leaving: u32) -> bool
+        requires { v < (meaning self.now).nodes }
+        ensures { result ≡ false → (t q : ℕ) (given : GivenRuns) → AddsMoving (rides self.now)
+            (visit_by v t q letters leaving) given given
+            (ways_past (meaning self.now) v t letters (steady_count self.now v)) [] [] }
+    {
+        let _ = (v, letters, leaving);
+        true
+    }
 
     /// Appends the arcs of a node but its steady ones that arrive if they are taken at the time of a visit, by a letter that it
     /// asks for or by none, in order. It may leave out rides where the state was given rides as good, and it notes the runs whose
