@@ -34,7 +34,7 @@ impl<'a> Plain<'a> {
     }
 
     #[inline(always)]
-    fn has_none_past_roads(&self, v: u32, letters: u32) -> bool {
+    pub fn has_none_past_roads(&self, v: u32, letters: u32) -> bool {
         let (first, past) = self.0.links_from(v);
         match self.0.letter(v) {
             Some(letter) => first == past && !is_open(letters, Some(letter)),
@@ -42,11 +42,7 @@ impl<'a> Plain<'a> {
         }
     }
 
-    #[inline(always)]
     pub fn push_fresh_past_roads(&self, visit: Visit, given: &mut GivenRuns, ways: &mut Vec<Way>) -> Result<(), AllocError> {
-        if self.has_none_past_roads(visit.node, visit.letters) {
-            return Ok(());
-        }
         self.0.push_links_and_inner(visit, given, ways)
     }
 }
@@ -80,6 +76,10 @@ impl Graph for Plain<'_> {
     }
 
     #[inline(always)]
+    fn may_have_fresh(&self, v: u32, letters: u32, leaving: u32) -> bool {
+        !self.has_none_past_roads(v, moving_letters(letters, leaving, self.0.letter(v)))
+    }
+
     fn fresh_ways(&self, visit: Visit, given: &mut GivenRuns, ways: &mut Vec<Way>) -> Result<(), AllocError> {
         let letter = self.0.letter(visit.node);
         let letters = moving_letters(visit.letters, visit.leaving, letter);

@@ -6,7 +6,7 @@ use Rattle.std.proofs.Math.Seq.{set-append_seam, get_or-append_seam, drop-append
 use Rattle.std.proofs.lemmas.List.{drop_more, drop_all, take_more, take_all, take-append-drop, length-append, length-map, length-take-le, length-drop, get_or-drop, map-append}
 use Rattle.std.proofs.lemmas.List.Elements.{All-cons, All-nil, All-append, All-contains, All-weaker}
 use Rattle.search_laws.specs.GraphLaws.{GraphMeaning}
-use Rattle.search_laws.specs.Fresh.{AreFresh, AddsFresh, StandsStill, AreMoving, AddsMoving}
+use Rattle.search_laws.specs.Fresh.{AreFresh, AddsFresh, StandsStill, AreMoving, AddsMoving, visit_by}
 use Rattle.search_laws.specs.Ways.{is_open, moving_letters, way_if, open_way, way_at, ways_from, ways_past}
 use Rattle.search_laws.specs.declared.given.GivenRuns.{GivenRuns}
 use Rattle.search_laws.specs.declared.graph.GraphArc.{GraphArc}
@@ -292,6 +292,19 @@ module _ (n : NetworkLists) (h : HierarchyLists) (t : TableLists) (marks : List 
   stand_none before low has =
       let count : others_at n t (node_of p) (is_down p) ≡ 0 = ap (λ d. others_at n t (node_of p) d) low ∙ ap (λ (o : Option ℕ). cond (is_some o) 1 0) has in
       sym (append-nil before) ∙ ap (λ k. before ++ from (ups + downs) k) (sym count)
+
+-- where nothing falls from a node before the descent, and nothing but road arcs leaves it in the plain graph, no ways are left but those along legs
+pub none_left : (n : NetworkLists) (h : HierarchyLists) (t : TableLists) (marks : List Bool) (p time letters leaving state : ℕ) (given : GivenRuns) → is_down p ≡ false
+    → falls_from h marks (first_entry h (node_of p)) (entries_at h (node_of p)) ≡ []
+    → ways_from (plain_meaning n t) (node_of p) time (moving_letters letters leaving (letter_at n.roads (node_of p))) (count_from n.arcs (node_of p))
+    (count_from n.links (node_of p) + inner_arcs_at n t (node_of p)) ≡ []
+    → AddsMoving (phase_rides n t) (visit_by p time state letters leaving) given given (ways_past (phase_meaning n t h marks) p time letters (length (rises_at h (node_of p) (is_down p)))) [] []
+none_left n h t marks p time letters leaving state given first ended none =
+    let v = node_of p in
+    let asked = moving_letters letters leaving (letter_at n.roads v) in
+    moving_joined n h t marks p time letters asked leaving state (length (rises_at h v (is_down p))) (entries_at h v) given given [] [] [] refl refl
+    (falls_ended n h t marks p time letters [] ended)
+    (adds_all (phase_rides n t) state given _ [] [] (ap (map (anew n h t marks p time asked)) (sym none) ∙ all_renumbered n h t marks p time asked first))
 
 -- ---- ways numbered anew, in their list
 

@@ -113,6 +113,13 @@ impl Graph for GraphInUse<'_> {
     ghost rides = { rides_in_use };
 
     #[inline(always)]
+    fn may_have_fresh(&self, v: u32, letters: u32, leaving: u32) -> bool {
+        match self {
+            GraphInUse::Plain(plain) => plain.may_have_fresh(v, letters, leaving),
+            GraphInUse::Phases(phases) => phases.may_have_fresh(v, letters, leaving),
+        }
+    }
+
     fn fresh_ways(
         &self,
         visit: Visit,

@@ -51,13 +51,14 @@ pub struct Phases<'a> {
 }
 
 impl<'a> Phases<'a> {
-    ghost use Rattle.std.specs.Prelude.{◌≡◌, ◌<◌, ◌+◌, ◌*◌, ◌^◌, ◌++◌, Bool, true, false, All, IfOk, OnOk, length, slice_index_or};
+    ghost use Rattle.std.specs.Prelude.{◌≡◌, ◌<◌, ◌+◌, ◌*◌, ◌^◌, ◌++◌, ◌≤◌, Bool, true, false, All, IfOk, IsTrue, OnOk, length, slice_index_or};
     ghost use Rattle.search_laws.specs.Fresh.{AddsFresh};
     ghost use Rattle.search_laws.specs.Ways.{ways_from, is_open};
     ghost use Rattle.mode_network.specs.NetworkLists.{nodes_of, letter_at};
     ghost use Rattle.phase_graph.specs.Arcs.{IsPhaseGraph, phase_node};
     ghost use Rattle.phase_graph.specs.Marks.{AreMarksFor, has_mark, is_fall, marks_in};
     ghost use Rattle.hierarchy.specs.Lookups.{AreFrom, entry_at};
+    ghost use Rattle.hierarchy.specs.Rises.{has_legs};
     ghost use Rattle.timetable_arcs.specs.Table.{IsTable};
     ghost use Rattle.phase_graph.specs.Walked.{JourneysHaveWalks, WalksHaveJourneys};
     ghost use Rattle.phase_graph.specs.PhaseArcs.{phase_meaning, rises_at, legs_at, first_entry, entries_at, others_at, first_other, phase_arc, phase_arcs_at, IsArcOutOf, BeginsAt, fall_arrival, phase_rides, node_of, is_down};
@@ -164,6 +165,15 @@ impl<'a> Phases<'a> {
         let _entries = self.hierarchy.entries();
         let (first, past) = self.hierarchy.entries_from(v);
         (first, past - first)
+    }
+
+    /// Whether no entries can be taken from a node but its legs: it is before the descent, and no fall leaves it.
+    #[inline(always)]
+    fn has_legs_alone(&self, v: u32, down: bool) -> bool
+        ensures { IsTrue result → (down ≡ false) × (has_legs self.now.hierarchy.now ≡ true)
+            × (slice_index_or self.now.falls.first.items v 0 ≤ 1) }
+    {
+        !down && self.hierarchy.has_legs() && self.falls.first_from(v) <= 1
     }
 
     /// Whether an entry leads down from a node with a mark to another.
@@ -494,6 +504,16 @@ impl Graph for Phases<'_> {
     }
 
     ghost rides = { λ g. phase_rides g.plain.network.now g.plain.timetable.now };
+
+    #[inline(always)]
+    fn may_have_fresh(&self, p: u32, letters: u32, leaving: u32) -> bool {
+        let (v, down) = split(p);
+        if !self.has_legs_alone(v, down) {
+            return true;
+        }
+        let letters = moving_letters(letters, leaving, self.network().letter(v));
+        !self.plain.has_none_past_roads(v, letters)
+    }
 
     fn fresh_ways(
         &self,

@@ -341,35 +341,10 @@ impl<'a> Plain<'a> {
         Ok(())
     }
 
-    /// Appends the arcs of the node of a visit but its road arcs that arrive if they are taken then, by a letter that the visit
-    /// asks for or by none, in order; but it may leave out rides where the state was given rides as good, and it notes the runs
-    /// whose rides it appends. They stand behind the road arcs. Fails where memory runs out.
-    #[inline(always)]
-    pub fn push_fresh_past_roads(
-        &self,
-        visit: Visit,
-        given: &mut GivenRuns,
-        ways: &mut Vec<Way>,
-    ) -> Result<(), AllocError>
-        requires node { visit.node < length (nodes_of self.now.network.now) }
-        requires time { visit.at < 2 ^ 127 }
-        ensures { OnOk result (AddsFresh (plain_rides self.now.network.now self.now.timetable.now) visit.state
-            given.old given.new (ways_from (plain_meaning self.now.network.now self.now.timetable.now)
-            visit.node visit.at visit.letters (count_from self.now.network.now.arcs visit.node)
-            (count_from self.now.network.now.links visit.node +
-            inner_arcs_at self.now.network.now self.now.timetable.now visit.node)) ways.old.items
-            ways.new.items) }
-    {
-        if self.has_none_past_roads(visit.node, visit.letters) {
-            return Ok(());
-        }
-        self.push_links_and_inner(visit, given, ways)
-    }
-
     /// Whether nothing but road arcs leaves a node by a letter of a set or by none: it is a road node without links, and where one
     /// stands there, that is by another letter. So it is with most nodes that a search comes to.
     #[inline(always)]
-    fn has_none_past_roads(&self, v: u32, letters: u32) -> bool
+    pub fn has_none_past_roads(&self, v: u32, letters: u32) -> bool
         requires { v < length (nodes_of self.now.network.now) }
         ensures { IsTrue result → (t : ℕ) → ways_from
             (plain_meaning self.now.network.now self.now.timetable.now) v t letters
@@ -383,9 +358,10 @@ impl<'a> Plain<'a> {
         }
     }
 
-    /// Appends the links out of the node of a visit, and the arc that stands there or the rides, as
-    /// [`push_fresh_past_roads`](Self::push_fresh_past_roads) does.
-    fn push_links_and_inner(
+    /// Appends the arcs of the node of a visit but its road arcs that arrive if they are taken then, by a letter that the visit
+    /// asks for or by none, in order; but it may leave out rides where the state was given rides as good, and it notes the runs
+    /// whose rides it appends. They stand behind the road arcs. Fails where memory runs out.
+    pub fn push_fresh_past_roads(
         &self,
         visit: Visit,
         given: &mut GivenRuns,
@@ -600,6 +576,12 @@ impl Graph for Plain<'_> {
     ghost rides = { λ g. plain_rides g.network.now g.timetable.now };
 
     #[inline(always)]
+    #[inline(always)]
+    fn may_have_fresh(&self, v: u32, letters: u32, leaving: u32) -> bool {
+        let letters = moving_letters(letters, leaving, self.network.letter(v));
+        !self.has_none_past_roads(v, letters)
+    }
+
     fn fresh_ways(
         &self,
         visit: Visit,

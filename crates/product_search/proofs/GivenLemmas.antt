@@ -3,7 +3,7 @@ use Rattle.std.proofs.Common.{◌≡◌, ℕ, inl, inr, List, [], ◌++◌, sym,
 use Rattle.std.specs.Prelude.{All, Contains, ◌≤◌}
 use Rattle.std.proofs.lemmas.List.Elements.{All-weaker, All-contains}
 use Rattle.search_laws.specs.LabelLaws.{LabelsMeaning, AllAfter}
-use Rattle.search_laws.specs.Fresh.{HoldsRun, IsAsGood, HasAsGood, RunRides, AreFresh, AreMoving, AddsMoving}
+use Rattle.search_laws.specs.Fresh.{HoldsRun, IsAsGood, HasAsGood, RunRides, AreFresh, AreMoving, AddsMoving, visit_by}
 use Rattle.search_laws.specs.declared.graph.GraphArc.{GraphArc}
 use Rattle.search_laws.specs.declared.graph.Visit.{Visit}
 use Rattle.search_laws.specs.declared.graph.Way.{Way}
@@ -28,8 +28,8 @@ reached_later f v q s t by le = record {
 }
 
 -- a product state that is visited at t
-abbrev pub visit_by : Scan → ℕ → ℕ → ℕ → Visit
-visit_by s t letters leaving = record { node = s.node; at = t; state = s.state; letters = letters; leaving = leaving }
+abbrev pub visit_of : Scan → ℕ → ℕ → ℕ → Visit
+visit_of s t letters leaving = visit_by s.node t s.state letters leaving
 
 -- the ways that were read are what is fresh of those that move
 pub record AreRead (rides : RunRides) (visit : Visit) (old new : GivenRuns) (ways read : List Way) : Type 0 where

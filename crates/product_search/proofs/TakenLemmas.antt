@@ -76,7 +76,7 @@ module _ (g : GraphMeaning) (l : LabelsMeaning) (v q t letters : ℕ) (f : Front
   module _ (leaving first : ℕ) (leaves : HasLeaving l q leaving) (here : IsReachedBy f v q t) (moving : List Way)
       (parts : AreMoving v t leaving (ways_past g v t letters first) moving) where
     -- what the arcs from a place on lead to is reached, if it is by these ways and by what was given before
-    arcs_past_reached : (rides : RunRides) (given : GivenRuns) (ways : List Way) → All (HasAsGoodOrGiven rides q given ways) moving
+    pub arcs_past_reached : (rides : RunRides) (given : GivenRuns) (ways : List Way) → All (HasAsGoodOrGiven rides q given ways) moving
         → AreGivenReached rides l f given → All (WayIsReached l f q) ways
         → (i : ℕ) → first ≤ i → i < g.arcs v → ArcIsReached g l f v q t i
     arcs_past_reached rides given ways covered before all i from lt u e wanted = by_letter (is_open letters (g.arc_at v i).letter) refl
@@ -99,11 +99,10 @@ module _ (g : GraphMeaning) (l : LabelsMeaning) (v q t letters : ℕ) (f : Front
             ]
         by_letter false h = none_after (g.arc_at v i).letter (λ r. IsReachedBy f (g.arc_at v i).to r u) h
 
-    -- so it is by all arcs, if it is by those before
-    pub arcs_reached : (rides : RunRides) (given : GivenRuns) (ways : List Way) → All (HasAsGoodOrGiven rides q given ways) moving
-        → AreGivenReached rides l f given → All (WayIsReached l f q) ways
-        → ((i : ℕ) → i < first → ArcIsReached g l f v q t i) → (i : ℕ) → i < g.arcs v → ArcIsReached g l f v q t i
-    arcs_reached rides given ways covered before all steady i lt = elim (cases_lt i first) [
-      | inl below ↦ steady i below
-      | inr from ↦ arcs_past_reached rides given ways covered before all i from lt
-    ]
+-- what all arcs lead to is reached, if it is by those below a place and by those from there on
+pub arcs_reached : (g : GraphMeaning) (l : LabelsMeaning) (f : Frontier) (v q t first : ℕ) → ((i : ℕ) → i < first → ArcIsReached g l f v q t i)
+    → ((i : ℕ) → first ≤ i → i < g.arcs v → ArcIsReached g l f v q t i) → (i : ℕ) → i < g.arcs v → ArcIsReached g l f v q t i
+arcs_reached g l f v q t first steady past i lt = elim (cases_lt i first) [
+  | inl below ↦ steady i below
+  | inr from ↦ past i from lt
+]

@@ -42,6 +42,41 @@ pub(crate) fn explore<G: Graph, L: Labels>(
         frontier.new given.new) }
 {
     explore_steady(frontier, graph, machine, from)?;
+    let (letters, leaving) = (machine.letters_of(from.state), machine.leaving(from.state));
+    if !graph.may_have_fresh(from.node, letters, leaving) {
+        return Ok(());
+    }
+    explore_fresh(frontier, given, ways, graph, machine, from)?;
+    Ok(())
+}
+
+/// Offers what the other arcs out of a product state lead to, as [`explore`] does.
+#[inline(never)]
+fn explore_fresh<G: Graph, L: Labels>(
+    frontier: &mut Frontier,
+    given: &mut GivenRuns,
+    ways: &mut Vec<Way>,
+    graph: &G,
+    machine: &Machine<L>,
+    from: Scan,
+) -> Result<(), AllocError>
+    requires node { from.node < (G.meaning graph.now).nodes }
+    requires state { from.state < (L.automaton machine.now.labels).states }
+    requires right { IsFrontier frontier.old }
+    requires here { IsReachedBy frontier.old from.node from.state (frontier.old.base + from.delay) }
+    requires within { G.steady_count graph.now from.node ≤ (G.meaning graph.now).arcs from.node }
+    requires given { AreGivenReached (G.rides graph.now) (L.automaton machine.now.labels) frontier.old
+        given.old }
+    ensures right { OnOk result (IsFrontier frontier.new) }
+    ensures offers { OnOk result (Offers frontier.old frontier.new (IsSuccessor (G.meaning graph.now)
+        (L.automaton machine.now.labels) frontier.old.base from)) }
+    ensures reached { OnOk result ((i : ℕ) → G.steady_count graph.now from.node ≤ i
+        → i < (G.meaning graph.now).arcs from.node →
+        ArcIsReached (G.meaning graph.now) (L.automaton machine.now.labels) frontier.new from.node from.state
+        (frontier.new.base + from.delay) i) }
+    ensures given { OnOk result (AreGivenReached (G.rides graph.now) (L.automaton machine.now.labels)
+        frontier.new given.new) }
+{
     let visit = Visit {
         node: from.node,
         at: frontier.time(from.delay),

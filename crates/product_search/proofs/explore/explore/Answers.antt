@@ -1,74 +1,62 @@
-use Rattle.std.proofs.Common.{◌≡◌, ◌+◌, subst, arith}
-use Rattle.product_search.specs.inside.Exploring.{Offers, IsByWays, IsSuccessor}
-use Rattle.product_search.proofs.OfferLemmas.{arc_keeps, reached_keeps, offers_more, offers_weaker}
-use Rattle.product_search.proofs.GivenLemmas.{visit_by, read_alone, read_among, given_keeps, given_more}
-use Rattle.product_search.proofs.TakenLemmas.{ways_letters, ways_times, by_ways, arcs_reached}
+use Rattle.std.proofs.Common.{◌≡◌, ◌+◌, [], refl, subst, arith}
+use Rattle.std.proofs.lemmas.List.Elements.{All-nil}
+use Rattle.product_search.specs.inside.Exploring.{Offers, WayIsReached, IsSuccessor}
+use Rattle.product_search.proofs.OfferLemmas.{arc_keeps, reached_keeps, offers_more}
+use Rattle.product_search.proofs.GivenLemmas.{visit_of, read_alone, given_keeps}
+use Rattle.product_search.proofs.TakenLemmas.{arcs_past_reached, arcs_reached}
 use Rattle.product_search.proofs.explore.explore.Goals as goal
 
-pub explore_ways-requires-clause-letters : goal.explore_ways-requires-clause-letters
-explore_ways-requires-clause-letters g c =
-    let t = c.time.result in
-    ways_letters (g.G.Graph.meaning c.args.graph.now) (g.L.Labels.automaton c.args.machine.now.labels) c.explore_steady.new.frontier.base c.args.from t _ _
-    (omega (arith, c.time.ensures.at)) (omega (arith, c.time.ensures.at)) _
-    (read_among (read_alone (visit_by c.args.from t c.letters_of.result c.leaving.result) c.in_ok-fresh_ways.ensures c.clear.ensures.items c.deref.ensures.value))
-    (g.met.G.Graph.lawful c.args.graph.now) c.requires.node
-
-pub explore_ways-requires-clause-times : goal.explore_ways-requires-clause-times
-explore_ways-requires-clause-times g c =
-    let t = c.time.result in
-    ways_times (g.G.Graph.meaning c.args.graph.now) (g.L.Labels.automaton c.args.machine.now.labels) c.explore_steady.new.frontier.base c.args.from t _ _
-    (omega (arith, c.time.ensures.at)) (omega (arith, c.time.ensures.at)) _
-    (read_among (read_alone (visit_by c.args.from t c.letters_of.result c.leaving.result) c.in_ok-fresh_ways.ensures c.clear.ensures.items c.deref.ensures.value))
-    (g.met.G.Graph.lawful c.args.graph.now) c.requires.node
+pub explore_fresh-requires-clause-given : goal.explore_fresh-requires-clause-given
+explore_fresh-requires-clause-given g c =
+    let graph = g.G.Graph.meaning c.args.graph.now in
+    let labels = g.L.Labels.automaton c.args.machine.now.labels in
+    given_keeps labels (g.G.Graph.rides c.args.graph.now) c.args.frontier.now c.explore_steady.new.frontier c.args.given.now (IsSuccessor graph labels c.args.frontier.now.base c.args.from)
+    c.in_ok-explore_steady.ensures.offers c.requires.given
 
 pub returns-clause-offers : goal.returns-clause-offers
 returns-clause-offers g c =
     let graph = g.G.Graph.meaning c.args.graph.now in
     let labels = g.L.Labels.automaton c.args.machine.now.labels in
     let s = c.args.from in
-    let t = c.time.result in
+    let old = c.args.frontier.now in
     let mid = c.explore_steady.new.frontier in
-    let new = c.explore_ways.new.frontier in
-    let successor = IsSuccessor graph labels c.args.frontier.now.base s in
-    offers_more c.args.frontier.now mid new successor c.in_ok-explore_steady.ensures.offers
-    (subst (λ b. Offers mid new (IsSuccessor graph labels b s)) c.in_ok-explore_steady.ensures.offers.base
-    (offers_weaker mid new (IsByWays labels mid.base s c.deref.result.now) (IsSuccessor graph labels mid.base s)
-    (by_ways graph labels mid.base s t _ _ (omega (arith, c.time.ensures.at)) (omega (arith, c.time.ensures.at)) _
-    (read_among (read_alone (visit_by s t c.letters_of.result c.leaving.result) c.in_ok-fresh_ways.ensures c.clear.ensures.items c.deref.ensures.value)) c.requires.node)
-    c.in_ok-explore_ways.ensures.offers))
+    let new = c.explore_fresh.new.frontier in
+    offers_more old mid new (IsSuccessor graph labels old.base s) c.in_ok-explore_steady.ensures.offers
+    (subst (λ b. Offers mid new (IsSuccessor graph labels b s)) c.in_ok-explore_steady.ensures.offers.base c.in_ok-explore_fresh.ensures.offers)
 
 pub returns-clause-reached : goal.returns-clause-reached
 returns-clause-reached g c =
     let graph = g.G.Graph.meaning c.args.graph.now in
     let labels = g.L.Labels.automaton c.args.machine.now.labels in
     let s = c.args.from in
-    let old = c.args.frontier.now in
     let mid = c.explore_steady.new.frontier in
-    let new = c.explore_ways.new.frontier in
-    let t = c.time.result in
-    let successor = IsSuccessor graph labels old.base s in
-    let offers = returns-clause-offers g c in
-    let read = read_alone (visit_by s t c.letters_of.result c.leaving.result) c.in_ok-fresh_ways.ensures c.clear.ensures.items c.deref.ensures.value in
-    let here : old.base + s.delay ≡ t = omega (arith, c.in_ok-explore_steady.ensures.offers.base, c.time.ensures.at) in
-    let there : new.base + s.delay ≡ t = omega (arith, offers.base, here) in
-    let before : mid.base + s.delay ≡ t = omega (arith, c.time.ensures.at) in
-    rw there (arcs_reached graph labels s.node s.state t _ new c.letters_of.ensures _ _ c.leaving.ensures
-    (reached_keeps old new successor offers s.node s.state t (rw (← here) c.requires.here))
-    read.moving read.parts _ _ _ read.fresh.rest
-    (given_keeps labels (g.G.Graph.rides c.args.graph.now) old new c.args.given.now successor offers c.requires.given)
-    c.in_ok-explore_ways.ensures.reached
-    (λ i lt. arc_keeps graph labels mid new (IsByWays labels mid.base s c.deref.result.now) c.in_ok-explore_ways.ensures.offers s.node s.state t i
-    (rw (← before) (c.in_ok-explore_steady.ensures.reached i lt))))
+    let new = c.explore_fresh.new.frontier in
+    let offers = c.in_ok-explore_fresh.ensures.offers in
+    let there : mid.base + s.delay ≡ new.base + s.delay = omega (arith, offers.base) in
+    arcs_reached graph labels new s.node s.state (new.base + s.delay) _
+    (λ i lt. arc_keeps graph labels mid new (IsSuccessor graph labels mid.base s) offers s.node s.state (new.base + s.delay) i (rw (← there) (c.in_ok-explore_steady.ensures.reached i lt)))
+    c.in_ok-explore_fresh.ensures.reached
 
-pub returns-clause-given : goal.returns-clause-given
-returns-clause-given g c =
+pub returns-then-not-may_have_fresh-clause-given : goal.returns-then-not-may_have_fresh-clause-given
+returns-then-not-may_have_fresh-clause-given g c =
+    let graph = g.G.Graph.meaning c.args.graph.now in
+    let labels = g.L.Labels.automaton c.args.machine.now.labels in
+    given_keeps labels (g.G.Graph.rides c.args.graph.now) c.args.frontier.now c.explore_steady.new.frontier c.args.given.now (IsSuccessor graph labels c.args.frontier.now.base c.args.from)
+    c.in_ok-explore_steady.ensures.offers c.requires.given
+
+pub returns-then-not-may_have_fresh-clause-reached : goal.returns-then-not-may_have_fresh-clause-reached
+returns-then-not-may_have_fresh-clause-reached g c =
+    let graph = g.G.Graph.meaning c.args.graph.now in
     let labels = g.L.Labels.automaton c.args.machine.now.labels in
     let s = c.args.from in
     let old = c.args.frontier.now in
-    let new = c.explore_ways.new.frontier in
-    let t = c.time.result in
-    given_more labels _ new
-    (read_alone (visit_by s t c.letters_of.result c.leaving.result) c.in_ok-fresh_ways.ensures c.clear.ensures.items c.deref.ensures.value).fresh
-    c.in_ok-explore_ways.ensures.reached
-    (given_keeps labels (g.G.Graph.rides c.args.graph.now) old new c.args.given.now (IsSuccessor (g.G.Graph.meaning c.args.graph.now) labels old.base s)
-    (returns-clause-offers g c) c.requires.given)
+    let new = c.explore_steady.new.frontier in
+    let t = new.base + s.delay in
+    let read = read_alone (visit_of s t c.letters_of-letters.result c.leaving-leaving.result)
+    (c.may_have_fresh.ensures c.if-not-may_have_fresh.true t s.state c.args.given.now) refl refl in
+    let offers = c.in_ok-explore_steady.ensures.offers in
+    let here : old.base + s.delay ≡ t = omega (arith, offers.base) in
+    arcs_reached graph labels new s.node s.state t _ c.in_ok-explore_steady.ensures.reached
+    (arcs_past_reached graph labels s.node s.state t _ new c.letters_of-letters.ensures _ _ c.leaving-leaving.ensures
+    (reached_keeps old new (IsSuccessor graph labels old.base s) offers s.node s.state t (rw (← here) c.requires.here))
+    read.moving read.parts _ _ [] read.fresh.rest (returns-then-not-may_have_fresh-clause-given g c) (All-nil (WayIsReached labels new s.state)))

@@ -1,11 +1,27 @@
-use Rattle.std.proofs.Common.{◌++◌, refl, sym, ap, ◌∙◌, append-nil}
-use Rattle.search_laws.proofs.FreshLemmas.{adds_all}
+use Rattle.std.proofs.Common.{◌+◌, List, sym, subst}
+use Rattle.search_laws.specs.declared.graph.Way.{Way}
+use Rattle.search_laws.specs.Fresh.{AddsFresh}
+use Rattle.search_laws.specs.Ways.{ways_from}
+use Rattle.search_laws.proofs.FreshLemmas.{adds_all, adds_more}
+use Rattle.search_laws.proofs.WayLemmas.{ways_split}
 use Rattle.plain_graph.specs.BoardWays.{plain_rides}
+use Rattle.plain_graph.specs.PlainArcs.{plain_meaning, count_from, inner_arcs_at}
 use Rattle.plain_graph.proofs.plain.Plain.push_fresh_past_roads.Goals as goal
 
-pub returns-then-has_none_past_roads : goal.returns-then-has_none_past_roads
-returns-then-has_none_past_roads c =
-    let ways = c.args.ways.now.items in
-    let none = c.if-has_none_past_roads.ensures refl c.args.visit.at in
-    adds_all (plain_rides c.args.self.now.network.now c.args.self.now.timetable.now) c.args.visit.state c.args.given.now _ ways ways
-    (sym (append-nil ways) ∙ ap (λ more. ways ++ more) (sym none))
+pub returns : goal.returns
+returns c =
+    let n = c.args.self.now.network.now in
+    let t = c.args.self.now.timetable.now in
+    let visit = c.args.visit in
+    let v = visit.node in
+    let given = c.args.given.now in
+    let before = c.args.ways.now.items in
+    let between = c.push_links.new.ways.items in
+    let after = c.push_fresh_inner.new.ways.items in
+    let links = rw (c.arcs_from-first_arc.ensures.range) at c.in_ok-push_links.ensures in
+    let inner = rw (c.arcs_from-first_arc.ensures.range, c.links_from-first_link.ensures.range) at c.in_ok-push_fresh_inner.ensures in
+    let first = ways_from (plain_meaning n t) v visit.at visit.letters (count_from n.arcs v) (count_from n.links v) in
+    let second = ways_from (plain_meaning n t) v visit.at visit.letters (count_from n.arcs v + count_from n.links v) (inner_arcs_at n t v) in
+    subst (λ (ws : List Way). AddsFresh (plain_rides n t) visit.state given c.push_fresh_inner.new.given ws before after)
+    (sym (ways_split (plain_meaning n t) v visit.at visit.letters (count_from n.arcs v) (count_from n.links v) (inner_arcs_at n t v)))
+    (adds_more (plain_rides n t) visit.state given given c.push_fresh_inner.new.given first second before between after (adds_all (plain_rides n t) visit.state given first before between links) inner)
