@@ -27,6 +27,10 @@ impl<T> Vec<T> {
     pub fn pop(&mut self) -> Option<T> {
         self.0.pop()
     }
+    pub fn reserve(&mut self, count: usize) -> Result<(), AllocError> {
+        self.0.reserve(count);
+        Ok(())
+    }
     pub fn clear(&mut self) {
         self.0.clear()
     }

@@ -1,10 +1,12 @@
 -- What a frontier has after a way was taken, and after items were taken from its queue; and its chains.
-use Rattle.std.proofs.Common.{◌≡◌, ◌≢◌, ℕ, ◌+◌, ◌-◌, ◌*◌, ◌/◌, ◌<◌, ◌≤◌, ◌⊎◌, inl, inr, List, [], ◌∷◌, ◌++◌, length, get_or, Some, zero, suc, refl, sym, ◌∙◌, ap, subst, arith}
+use Rattle.std.proofs.Common.{◌≡◌, ◌≢◌, ℕ, ◌+◌, ◌-◌, ◌*◌, ◌/◌, ◌<◌, ◌≤◌, ◌⊎◌, inl, inr, List, [], ◌∷◌, ◌++◌, length, get_or, Option, Some, None, IfNone, zero, suc, refl, sym, ◌∙◌, ap, subst, arith, Vec, Contains}
 use Rattle.std.specs.Prelude.{◌^◌, slice_get, slice_set, slice_index}
 use Rattle.std.proofs.lemmas.Bool.{cases_eq, cases_lt}
 use Rattle.std.proofs.lemmas.List.{length_push}
+use Rattle.std.proofs.lemmas.List.Elements.{Contains-push_cases}
 use Rattle.std.proofs.lemmas.Option.{slice_get_within, slice_get_cases, slice_get_read}
 use Rattle.std.proofs.Math.Nat.{mul-div_cancel}
+use Rattle.std.specs.declared.alloc.Global.{Global}
 use Rattle.product_search.specs.declared.queue.Item.{Item}
 use Rattle.product_search.specs.declared.queue.Queue.{Queue}
 use Rattle.product_search.specs.declared.row.Reached.{Reached}
@@ -12,8 +14,8 @@ use Rattle.product_search.specs.declared.row.Row.{Row}
 use Rattle.product_search.specs.declared.row.Taken.{Taken}
 use Rattle.product_search.specs.declared.frontier.Scan.{Scan}
 use Rattle.product_search.specs.declared.frontier.Frontier.{Frontier}
-use Rattle.product_search.specs.inside.Queued.{IsQueue, TakesIn, Gives, GivesNone, queue_len}
-use Rattle.product_search.specs.inside.Waiting.{rows, ways, IsAt, IsApart, IsNowhere, chain_of, chain_in, IsLast, IsIndexed, IsClear, HasChainsFrom, IsReachedBy, IsLastWay, Waits, IsFrontier, IsSameBut, IsScanOf, IsPassedOver, Takes, TakesNone, taken_as}
+use Rattle.product_search.specs.inside.Queued.{IsQueue, TakesIn, Gives, Turns, Narrows, queue_len}
+use Rattle.product_search.specs.inside.Waiting.{rows, ways, IsAt, IsApart, IsNowhere, chain_of, chain_in, IsLast, IsIndexed, IsClear, HasChainsFrom, IsReachedBy, IsLastWay, Waits, IsFrontier, IsSameBut, IsScanOf, IsPassedOver, Takes, TakesNone, IsReady, GivesItem, PutsAgain, Rearranges, taken_as}
 use Rattle.product_search.specs.inside.Exploring.{IsNoLater, IsGiven, IsTakenAs, Offers}
 
 -- ---- a list of which one element is new
@@ -321,14 +323,10 @@ behind_all count rs first i all behind v = go (slice_index first v) refl where
   go zero e = e
   go (suc k) e = let b = behind v k e in let lt = slice_get_within rs b.0 b.2 b.3 in absurd (omega (arith, b.1, lt, all))
 
--- ---- items are taken from the queue
+-- ---- only the queue changes
 
--- items were taken from the queue, but none of those by which a row waits for a delay that is wanted
-pub record HasDropped (old new : Frontier) : Type 0 where
-  pub same : IsSameBut old new
-  pub right : IsFrontier new
-  pub others : (k : ℕ) (r : Row) → slice_get (rows old) k ≡ Some r → Waits old k r → Waits new k r ⊎ (old.until ≤ r.delay)
-  pub fewer : queue_len new.queue ≤ queue_len old.queue
+same_left : (f : Frontier) (q : Queue) → IsSameBut f (record f { queue = q })
+same_left f q = record { base = refl; until = refl; rows = refl; ways = refl }
 
 right_left : (f : Frontier) (q : Queue) → IsFrontier f → IsQueue q → IsFrontier (record f { queue = q })
 right_left f q right queue = record {
@@ -341,47 +339,181 @@ right_left f q right queue = record {
   few_ways = right.few_ways;
 }
 
-module _ (old f : Frontier) (q : Queue) (dropped : HasDropped old f) where
-  same_left : IsSameBut old (record f { queue = q })
-  same_left = record { base = dropped.same.base; until = dropped.same.until; rows = dropped.same.rows; ways = dropped.same.ways }
+same_then : (a b c : Frontier) → IsSameBut a b → IsSameBut b c → IsSameBut a c
+same_then a b c first then = record {
+  base = then.base ∙ first.base;
+  until = then.until ∙ first.until;
+  rows = then.rows ∙ first.rows;
+  ways = then.ways ∙ first.ways;
+}
 
-  known_now : (k j : ℕ) (r : Row) → k ≡ j → slice_get (rows old) k ≡ Some r → slice_get (rows f) j ≡ Some r
-  known_now k j r same known = ap (λ rs. slice_get rs j) dropped.same.rows ∙ ap (slice_get (rows old)) (sym same) ∙ known
+-- what is known of a row is known still
+known_then : (a b : Frontier) → IsSameBut a b → (k : ℕ) (r : Row) → slice_get (rows a) k ≡ Some r → slice_get (rows b) k ≡ Some r
+known_then a b same k r known = ap (λ rs. slice_get rs k) same.rows ∙ known
 
-  module _ (x : Item) (gives : Gives f.queue q x) where
-    left : (k : ℕ) (r : Row) → slice_get (rows old) k ≡ Some r → Waits old k r
-        → ((k ≡ x.row) × (r.way ≡ x.way)) ⊎ Waits (record f { queue = q }) k r ⊎ (old.until ≤ r.delay)
+-- ---- the queue is rearranged
+
+pub rearranged : (a b c : Frontier) → Rearranges a b → Rearranges b c → Rearranges a c
+rearranged a b c first then = record {
+  same = same_then a b c first.same then.same;
+  right = then.right;
+  stay = λ k r known waits. then.stay k r (known_then a b first.same k r known) (first.stay k r known waits);
+  no_more = omega (arith, first.no_more, then.no_more);
+}
+
+module _ (f : Frontier) (q : Queue) (right : IsFrontier f) (turns : Turns f.queue q f.until) where
+  pub turned : Rearranges f (record f { queue = q })
+  turned = record {
+    same = same_left f q;
+    right = right_left f q right turns.right;
+    stay = λ k r known waits. turns.stays r.delay _ waits;
+    no_more = omega (arith, turns.as_many);
+  }
+
+  pub turned_ready : IsReady (record f { queue = q })
+  turned_ready none k r waits = turns.none none r.delay _ waits
+
+-- where the lot in turn has some, nothing is to be done
+pub rearranged_none : (f : Frontier) → IsFrontier f → (f.queue.current.items ≡ [] → ⊥) → Rearranges f f × IsReady f
+rearranged_none f right some = (
+  record { same = same_left f f.queue; right = right; stay = λ k r known waits. waits; no_more = omega arith },
+  λ none. absurd (some none),
+)
+
+-- a lot is put in again, of which this is still left
+pub record HasSpread (old new : Frontier) (lot : List Item) : Type 0 where
+  pub same : IsSameBut old new
+  pub right : IsFrontier new
+  pub current : new.queue.current.items ≡ []
+  pub stay : (k : ℕ) (r : Row) → slice_get (rows old) k ≡ Some r → Waits old k r → Contains lot (record { row = k; way = r.way }) ⊎ Waits new k r
+  pub no_more : queue_len new.queue + length lot ≤ queue_len old.queue
+
+pub spread_begins : (f : Frontier) (q : Queue) (lot : List Item) → IsFrontier f → Narrows f.queue q lot → HasSpread f (record f { queue = q }) lot
+spread_begins f q lot right narrows = record {
+  same = same_left f q;
+  right = right_left f q right narrows.right;
+  current = narrows.current;
+  stay = λ k r known waits. narrows.stays r.delay _ waits;
+  no_more = omega (arith, narrows.as_many);
+}
+
+pub spread_on : (old f new : Frontier) (lot left : List Item) (x : Item) → HasSpread old f lot → lot ≡ left ++ x ∷ [] → PutsAgain f new x → HasSpread old new left
+spread_on old f new lot left x spread popped puts = record {
+  same = same_then old f new spread.same puts.same;
+  right = puts.right;
+  current = ap (λ (v : Vec Item Global). v.items) puts.current ∙ spread.current;
+  stay = λ k r known waits. elim (spread.stay k r known waits) [
+    | inr still ↦ inr (puts.stay k r still)
+    | inl has ↦ elim (Contains-push_cases left x (record { row = k; way = r.way }) (rw popped at has)) [
+      | inl other ↦ inl other
+      | inr is ↦ inr (subst (λ j. Waits new j r) (ap (λ (y : Item). y.row) is)
+          (puts.there r (known_then old f spread.same x.row r (ap (slice_get (rows old)) (ap (λ (y : Item). y.row) is) ∙ known)) (sym (ap (λ (y : Item). y.way) is))))
+    ]
+  ];
+  no_more = omega (arith, spread.no_more, puts.no_more, ap length popped, length_push left x);
+}
+
+pub spread_ends : (old f : Frontier) (lot : List Item) → lot ≡ [] → HasSpread old f lot → Rearranges old f
+spread_ends old f lot none spread = record {
+  same = spread.same;
+  right = spread.right;
+  stay = λ k r known waits. elim (spread.stay k r known waits) [
+    | inl has ↦ absurd (omega (arith, has.1, ap length none))
+    | inr still ↦ still
+  ];
+  no_more = omega (arith, spread.no_more);
+}
+
+-- x is put in again
+pub put_again : (f : Frontier) (q : Queue) (x : Item) (r : Row) → IsFrontier f → slice_get (rows f) x.row ≡ Some r → r.way ≡ x.way
+    → TakesIn f.queue q r.delay x → PutsAgain f (record f { queue = q }) x
+put_again f q x r right known way puts = record {
+  same = same_left f q;
+  right = right_left f q right puts.right;
+  current = puts.current;
+  stay = λ k e waits. puts.stays e.delay _ waits;
+  there = λ e also same. rw (same, same_element Row (rows f) x.row e r also known) puts.there;
+  no_more = omega (arith, puts.more);
+}
+
+-- a stale one is not
+pub stale_left : (f : Frontier) (x : Item) → IsFrontier f → ((r : Row) → slice_get (rows f) x.row ≡ Some r → r.way ≡ x.way → ⊥) → PutsAgain f f x
+stale_left f x right stale = record {
+  same = same_left f f.queue;
+  right = right;
+  current = refl;
+  stay = λ k r waits. waits;
+  there = λ r known way. absurd (stale r known way);
+  no_more = omega arith;
+}
+
+-- ---- items are taken from the queue
+
+-- an item is given out
+module _ (old f : Frontier) (q : Queue) (keeps : Rearranges old f) (right : IsQueue q) where
+  pub given_item : (x : Item) → Gives f.queue q x → GivesItem old (record f { queue = q }) x
+  given_item x gives = record {
+    same = same_then old f (record f { queue = q }) keeps.same (same_left f q);
+    right = right_left f q keeps.right right;
+    others = λ k r known waits. elim (gives.stays r.delay (record { row = k; way = r.way }) (keeps.stay k r known waits)) [
+      | inl is ↦ inl (ap (λ (y : Item). y.row) is, ap (λ (y : Item). y.way) is)
+      | inr stays ↦ inr stays
+    ];
+    fewer = omega (arith, gives.fewer, keeps.no_more);
+  }
+
+  pub given_none : (r : Option Item) → IsReady f → IfNone r (f.queue.current.items ≡ []) → IfNone r (TakesNone old (record f { queue = q }))
+  given_none (Some x) ready some = tt
+  given_none None ready none = record {
+    same = same_then old f (record f { queue = q }) keeps.same (same_left f q);
+    right = right_left f q keeps.right right;
+    none = λ k r known waits. subst (λ u. u ≤ r.delay) keeps.same.until (ready none k r (keeps.stay k r known waits));
+  }
+
+-- items were taken from the queue, but none of those by which a row waits for a delay that is wanted
+pub record HasDropped (old new : Frontier) : Type 0 where
+  pub same : IsSameBut old new
+  pub right : IsFrontier new
+  pub others : (k : ℕ) (r : Row) → slice_get (rows old) k ≡ Some r → Waits old k r → Waits new k r ⊎ (old.until ≤ r.delay)
+  pub fewer : queue_len new.queue ≤ queue_len old.queue
+
+module _ (old f new : Frontier) (dropped : HasDropped old f) where
+  module _ (x : Item) (gives : GivesItem f new x) where
+    left : (k : ℕ) (r : Row) → slice_get (rows old) k ≡ Some r → Waits old k r → ((k ≡ x.row) × (r.way ≡ x.way)) ⊎ Waits new k r ⊎ (old.until ≤ r.delay)
     left k r known waits = elim (dropped.others k r known waits) [
       | inr late ↦ inr (inr late)
-      | inl still ↦ elim (gives.stays r.delay (record { row = k; way = r.way }) still) [
-        | inl is ↦ inl (ap (λ (y : Item). y.row) is, ap (λ (y : Item). y.way) is)
+      | inl still ↦ elim (gives.others k r (known_then old f dropped.same k r known) still) [
+        | inl is ↦ inl is
         | inr stays ↦ inr (inl stays)
       ]
     ]
 
-    pub drops_stale : IsPassedOver f x → HasDropped old (record f { queue = q })
+    same_now : IsSameBut old new
+    same_now = same_then old f new dropped.same gives.same
+
+    pub drops_stale : IsPassedOver new x → HasDropped old new
     drops_stale passed = record {
-      same = same_left;
-      right = right_left f q dropped.right gives.right;
+      same = same_now;
+      right = gives.right;
       others = λ k r known waits. elim (left k r known waits) [
-        | inl is ↦ inr (subst (λ u. u ≤ r.delay) dropped.same.until (passed r (known_now k x.row r is.0 known) is.1))
+        | inl is ↦ inr (subst (λ u. u ≤ r.delay) same_now.until (passed r (known_then old new same_now x.row r (ap (slice_get (rows old)) (sym is.0) ∙ known)) is.1))
         | inr rest ↦ rest
       ];
       fewer = omega (arith, gives.fewer, dropped.fewer);
     }
 
-    pub takes_scan : (s : Scan) → IsScanOf (record f { queue = q }) x s → Takes old (record f { queue = q }) s
+    pub takes_scan : (s : Scan) → IsScanOf new x s → Takes old new s
     takes_scan s is = record {
-      same = same_left;
-      right = right_left f q dropped.right gives.right;
+      same = same_now;
+      right = gives.right;
       number = x.row;
       row = is.row;
-      known = ap (λ rs. slice_get rs x.row) (sym dropped.same.rows) ∙ is.known;
+      known = ap (λ rs. slice_get rs x.row) (sym same_now.rows) ∙ is.known;
       node = is.node;
       state = is.state;
       delay = is.delay;
       link = is.link;
-      early = subst (λ u. s.delay < u) dropped.same.until is.early;
+      early = subst (λ u. s.delay < u) same_now.until is.early;
       others = λ k r known waits. elim (left k r known waits) [
         | inl here ↦ inl here.0
         | inr rest ↦ inr rest
@@ -389,12 +521,12 @@ module _ (old f : Frontier) (q : Queue) (dropped : HasDropped old f) where
       fewer = omega (arith, gives.fewer, dropped.fewer);
     }
 
-  pub takes_none : GivesNone f.queue q f.until → TakesNone old (record f { queue = q })
-  takes_none gives = record {
-    same = same_left;
-    right = right_left f q dropped.right gives.right;
+  pub takes_none : TakesNone f new → TakesNone old new
+  takes_none none = record {
+    same = same_then old f new dropped.same none.same;
+    right = none.right;
     none = λ k r known waits. elim (dropped.others k r known waits) [
       | inr late ↦ late
-      | inl still ↦ subst (λ u. u ≤ r.delay) dropped.same.until (gives.none r.delay (record { row = k; way = r.way }) still)
+      | inl still ↦ subst (λ u. u ≤ r.delay) dropped.same.until (none.none k r (known_then old f dropped.same k r known) still)
     ];
   }

@@ -1,5 +1,5 @@
 -- The buckets of a queue, and what moves between them.
-use Rattle.std.proofs.Common.{◌≡◌, ◌≢◌, ℕ, ◌+◌, ◌-◌, ◌*◌, ◌^◌, ◌<◌, ◌≤◌, ◌⊎◌, inl, inr, Option, Some, None, IfSome, IfNone, MatchOption, Result, Ok, Err, OnOk, List, [], ◌∷◌, ◌++◌, length, get_or, set, map, zero, suc, refl, sym, ◌∙◌, ap, subst, arith, Vec, Contains, swap_remove, IsPermutation, min, vec_len}
+use Rattle.std.proofs.Common.{◌≡◌, ◌≢◌, ℕ, ◌+◌, ◌-◌, ◌*◌, ◌^◌, ◌<◌, ◌≤◌, ◌⊎◌, inl, inr, Option, Some, None, IfSome, Result, Ok, Err, OnOk, List, [], ◌∷◌, ◌++◌, length, get_or, set, map, zero, suc, refl, sym, ◌∙◌, ap, subst, arith, Vec, Contains, swap_remove, IsPermutation, min}
 use Rattle.std.proofs.lemmas.Bool.{cases_lt, cases_eq}
 use Rattle.std.proofs.lemmas.List.{length-set, length-append, nil_from_length}
 use Rattle.std.proofs.lemmas.List.Elements.{All-contains, All-push, All-same, Contains-append_left, Contains-push, Contains-push_cases}
@@ -12,7 +12,7 @@ use Rattle.std.specs.declared.alloc.Global.{Global}
 use Rattle.product_search.specs.declared.queue.Item.{Item}
 use Rattle.product_search.specs.declared.queue.LateItem.{LateItem}
 use Rattle.product_search.specs.declared.queue.Queue.{Queue}
-use Rattle.product_search.specs.inside.Queued.{bucket_of, bucketed_len, begin_at, begin_of, Queued, IsLater, AreBuckets, IsPast, IsQueue, IsEmptyQueue, TakesIn, Gives, GivesNone, PutsAt, Moves, Turns}
+use Rattle.product_search.specs.inside.Queued.{bucket_of, bucketed_len, begin_at, begin_of, Queued, IsLater, AreBuckets, IsPast, IsQueue, IsEmptyQueue, TakesIn, Gives, PutsAt, PutsLater, Moves, Turns, Narrows}
 
 -- ---- lists of buckets
 
@@ -115,6 +115,7 @@ pub taken_in : {E : Type 0} (old new : Queue) (place delay : ℕ) (x : Item) (r 
 taken_in old new place delay x (Err e) right begin put = tt
 taken_in old new place delay x (Ok ok) right begin put = record {
   right = record { right = put.right; later = rw (put.later, put.start, put.bits) right.later };
+  current = put.current;
   stays = put.stays;
   there = put.there delay begin;
   more = put.more;
@@ -127,6 +128,7 @@ taken_later old x later right past pushed = record {
     right = still_right old old.current later right.right;
     later = All-same (IsPast old) later.items _ pushed (All-push (IsPast old) old.later.items x right.later past);
   };
+  current = refl;
   stays = λ u y q. elim q [
     | inl now ↦ inl now
     | inr (inl there) ↦ inr (inl there)
@@ -275,14 +277,32 @@ module _ (old q : Queue) (right : IsQueue q) (moves : Moves old q) (none : q.cur
   pub not_taken : ((u : ℕ) (y : Item) → Queued q u y → until ≤ u) → Turns old q until
   not_taken late = record { right = right; stays = moves.stays; as_many = moves.as_many; none = λ e. late }
 
+-- a lot is counted
+pub counted : (old q : Queue) (lots : ℕ) → IsQueue q → Moves old q → IsQueue (record q { lots = lots }) × Moves old (record q { lots = lots })
+counted old q lots right moves = (
+  record {
+    right = record {
+      narrow = right.right.narrow;
+      narrow_next = right.right.narrow_next;
+      few = right.right.few;
+      in_round = right.right.in_round;
+      passed = right.right.passed;
+    };
+    later = right.later;
+  },
+  record { current = moves.current; stays = moves.stays; as_many = moves.as_many },
+)
+
 -- ---- an item is given out
 
-module _ (old mid : Queue) (until : ℕ) (current : Vec Item Global) (turns : Turns old mid until) where
-  pub given : (r : Option Item) → mid.current.items ≡ current.items ++ option_to_list r → IfSome r (Gives old (record mid { current = current }))
+module _ (old : Queue) (current : Vec Item Global) (right : IsQueue old) where
+  pub given_right : IsQueue (record old { current = current })
+  given_right = record { right = still_right old current old.later right.right; later = right.later }
+
+  pub given : (r : Option Item) → old.current.items ≡ current.items ++ option_to_list r → IfSome r (Gives old (record old { current = current }))
   given None was = tt
   given (Some x) was = record {
-    right = record { right = still_right mid current mid.later turns.right.right; later = turns.right.later };
-    stays = λ u y queued. elim (turns.stays u y queued) [
+    stays = λ u y queued. elim queued [
       | inl now ↦ elim (Contains-push_cases current.items x y (rw was at now.0)) [
         | inl left ↦ inr (inl (left, now.1))
         | inr is ↦ inl (sym is)
@@ -290,20 +310,95 @@ module _ (old mid : Queue) (until : ℕ) (current : Vec Item Global) (turns : Tu
       | inr (inl there) ↦ inr (inr (inl there))
       | inr (inr later) ↦ inr (inr (inr later))
     ];
-    fewer = omega (arith, turns.as_many, ap length was, length-append current.items (x ∷ []));
+    fewer = omega (arith, ap length was, length-append current.items (x ∷ []));
   }
 
-  pub none_given : (r : Option Item) → MatchOption r ((vec_len mid.current ≡ 0) × (vec_len current ≡ 0)) (λ x. vec_len current + 1 ≡ vec_len mid.current)
-      → IfNone r (GivesNone old (record mid { current = current }) until)
-  none_given None none = record {
-    right = record { right = still_right mid current mid.later turns.right.right; later = turns.right.later };
-    none = λ u y queued. turns.none (nil_from_length mid.current.items (omega (arith, none.0))) u y (turns.stays u y queued);
-  }
-  none_given (Some x) some = tt
+-- ---- buckets are put off
 
--- what may still have any is left as it is
-pub some_in_turn : (q : Queue) (until : ℕ) → IsQueue q → q.current.items ≢ [] → Turns q q until
-some_in_turn q until right some = record { right = right; stays = λ u y queued. queued; as_many = refl; none = λ none. absurd (some none) }
+pub puts_one : (d : ℕ) (bucket left rest : List Item) (old later now : List LateItem) (x : Item) → left ≡ rest ++ x ∷ []
+    → now ≡ later ++ record { delay = d; item = x } ∷ [] → PutsLater d bucket left old later → PutsLater d bucket rest old now
+puts_one d bucket left rest old later now x popped pushed puts = record {
+  stays = λ y has. goes y (puts.stays y has);
+  there = λ y has. elim (puts.there y has) [
+    | inr gone ↦ inr (goes _ gone)
+    | inl still ↦ elim (Contains-push_cases rest x y (rw popped at still)) [
+      | inl other ↦ inl other
+      | inr is ↦ inr (subst (λ z. Contains now (record { delay = d; item = z })) is (rw pushed (Contains-push later _)))
+    ]
+  ];
+  as_many = omega (arith, puts.as_many, ap length popped, ap length pushed, length-append rest (x ∷ []), length-append later (record { delay = d; item = x } ∷ []));
+} where
+  goes : (y : LateItem) → Contains later y → Contains now y
+  goes y has = rw pushed (Contains-append_left later _ y has)
+
+-- the first n buckets are put off
+pub record HasPutOff (old new : Queue) (n : ℕ) : Type 0 where
+  pub right : AreBuckets new
+  pub moves : Moves old new
+  pub none : (k : ℕ) → k < n → bucket_of new.buckets.items k ≡ []
+  pub size : length new.buckets.items ≡ length old.buckets.items
+
+-- the next one is
+module _ (old q : Queue) (n d : ℕ) (done : HasPutOff old q n) (within : n < length q.buckets.items) (begins : d ≤ begin_of q n) (b : Vec Item Global) (none : b.items ≡ [])
+    (buckets : Vec (Vec Item Global) Global) (set_there : buckets.items ≡ set q.buckets.items n b) (later : Vec LateItem Global)
+    (puts : PutsLater d (bucket_of q.buckets.items n) b.items q.later.items later.items) where
+  emptied : (k : ℕ) → (k ≡ n) ⊎ (bucket_of q.buckets.items k ≡ []) → bucket_of buckets.items k ≡ []
+  emptied k is = elim (cases_eq k n) [
+    | inl same ↦ ap (λ vs. bucket_of vs k) set_there ∙ ap (bucket_of (set q.buckets.items n b)) same ∙ bucket-set_same q.buckets.items n b within ∙ none
+    | inr other ↦ elim is [
+      | inl same ↦ absurd (other same)
+      | inr was ↦ ap (λ vs. bucket_of vs k) set_there ∙ bucket-set_other q.buckets.items n k b other ∙ was
+    ]
+  ]
+
+  pub puts_off : HasPutOff old (record q { buckets = buckets; later = later }) (n + 1)
+  puts_off = record {
+    right = record {
+      narrow = done.right.narrow;
+      narrow_next = done.right.narrow_next;
+      few = rw set_there (omega (arith, length-set q.buckets.items n b, done.right.few));
+      in_round = done.right.in_round;
+      passed = λ k lt. emptied k (inr (done.right.passed k lt));
+    };
+    moves = record {
+      current = done.moves.current;
+      stays = λ u y queued. elim (done.moves.stays u y queued) [
+        | inl now ↦ inl now
+        | inr (inl (k, has, le)) ↦ elim (cases_eq k n) [
+          | inl same ↦ elim (puts.there y (subst (λ j. Contains (bucket_of q.buckets.items j) y) same has)) [
+            | inl left ↦ absurd (none_of_none b.items y none left)
+            | inr gone ↦ inr (inr (d, gone, omega (arith, begins, subst (λ j. begin_of q j ≤ u) same le)))
+          ]
+          | inr other ↦ inr (inl (k, rw (set_there, bucket-set_other q.buckets.items n k b other) has, le))
+        ]
+        | inr (inr (e, has, le)) ↦ inr (inr (e, puts.stays _ has, le))
+      ];
+      as_many = omega (arith, done.moves.as_many, puts.as_many, ap bucketed_len set_there, bucketed-set q.buckets.items n b within, ap length none);
+    };
+    none = λ k lt. emptied k (elim (cases_eq k n) [ inl same ↦ inl same | inr other ↦ inr (done.none k (omega (arith, lt, other))) ]);
+    size = omega (arith, ap length set_there, length-set q.buckets.items n b, done.size);
+  }
+
+pub put_off_all : (old q : Queue) (n : ℕ) → HasPutOff old q n → length old.buckets.items ≤ n → (k : ℕ) → bucket_of q.buckets.items k ≡ []
+put_off_all old q n done all k = elim (cases_lt k n) [
+  | inl lt ↦ done.none k lt
+  | inr ge ↦ bucket_past q.buckets.items k (omega (arith, done.size, all, ge))
+]
+
+-- ---- narrower buckets begin a round
+
+pub narrowed : (old q new : Queue) (current : Vec Item Global) (lot : List Item) (start bits : ℕ) → current.items ≡ [] → lot ≡ old.current.items
+    → Moves (record old { current = current }) q → ((k : ℕ) → bucket_of q.buckets.items k ≡ []) → IsQueue new
+    → Moves (record q { start = start; turn = 0; bits = bits; next_bits = bits; lots = 0 }) new → Narrows old new lot
+narrowed old q new current lot start bits none is off empty right moves = record {
+  right = right;
+  current = moves.current ∙ off.current ∙ none;
+  stays = λ u y queued. elim queued [
+    | inl now ↦ inl (rw is now.0)
+    | inr rest ↦ inr (moves.stays u y (inr (inr (only_later q (off.current ∙ none) empty u y (off.stays u y (inr rest))))))
+  ];
+  as_many = omega (arith, moves.as_many, off.as_many, ap length none, ap length is);
+}
 
 -- ---- a round begins
 

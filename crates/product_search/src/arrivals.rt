@@ -5,6 +5,7 @@ ghost use Rattle.product_search.specs.Arrivals.{AreArrivals};
 ghost use Rattle.product_search.specs.inside.Noting.{AreAllTimes, time_of};
 ghost use Rattle.product_search.specs.inside.Waiting.{IsFrontier};
 
+use crate::ahead::read_ahead;
 use crate::chains::Chains;
 use crate::explore::explore;
 use crate::frontier::Frontier;
@@ -35,8 +36,12 @@ pub fn search_arrivals<G: Graph, L: Labels>(
     let alloc = workspace.allocator();
     let kept = workspace.take(alloc);
     let arrived = reach_targets(kept, graph, machine, starts, targets, dep)?;
-    let Arrived { frontier, noted } = arrived;
-    workspace.put(frontier);
+    let Arrived {
+        frontier,
+        noted,
+        read,
+    } = arrived;
+    workspace.put(frontier, read);
     let list = listed(alloc, targets, &noted)?;
     Ok(list)
 }
@@ -46,6 +51,8 @@ pub fn search_arrivals<G: Graph, L: Labels>(
 struct Arrived {
     frontier: Frontier,
     noted: Noted,
+    /// What was read ahead.
+    read: u32,
 }
 
 /// Explores product states from the starts on. When all targets are reached in an accepting state, it goes on up to the latest
@@ -67,17 +74,24 @@ fn reach_targets<G: Graph, L: Labels>(
     let alloc = workspace.allocator();
     let mut noted = Noted::none(alloc, targets)?;
     let chains = Chains::of(graph.nodes(), machine.labels.states(), false);
+    let workspace = workspace.with_room(graph.nodes())?;
     let mut frontier = Frontier::new(workspace, chains, dep as u64, u64::MAX);
     offer_starts(&mut frontier, &machine.labels, starts)?;
     let mut given = GivenRuns::new(alloc);
     let mut ways = Vec::new(alloc);
+    let mut read = 0;
     'search: while let Some(scan) = frontier.take()? {
         if noted.note_end(&machine.labels, targets, &frontier, scan) {
             frontier.until = frontier.until.min(noted.latest);
         }
+        read = read_ahead(graph, &frontier, read);
         explore(&mut frontier, &mut given, &mut ways, graph, machine, scan)?;
     }
-    Ok(Arrived { frontier, noted })
+    Ok(Arrived {
+        frontier,
+        noted,
+        read,
+    })
 }
 
 /// When each target was reached, in the order in which they are listed.

@@ -7,6 +7,7 @@ ghost use Rattle.std.specs.Ordering.{nat_cmp};
 ghost use Rattle.product_search.specs.Questions.{question_of};
 ghost use Rattle.product_search.specs.inside.Searching.{IsExploredWithin, end_arrival, until_of};
 
+use crate::ahead::read_ahead;
 use crate::chains::Chains;
 use crate::ends::Ends;
 use crate::explore::explore;
@@ -23,6 +24,8 @@ use std::alloc::{AllocError, Global};
 pub(crate) struct Explored {
     pub frontier: Frontier,
     pub end: Limited<Option<Scan>>,
+    /// What was read ahead.
+    pub read: u32,
 }
 
 /// Explores product states from the starts on, until none waits that is reached before the best end. That is given up where
@@ -41,11 +44,13 @@ pub(crate) fn explore_all<G: Graph, L: Labels>(
     let chains = Chains::of(graph.nodes(), labels.states(), question.meets_few);
     let base = question.dep as u64;
     let until = until_of(question.dep, question.bound);
+    let workspace = workspace.with_room(graph.nodes())?;
     let mut frontier = Frontier::new(workspace, chains, base, until);
     offer_starts(&mut frontier, labels, question.starts)?;
     let mut given = GivenRuns::new(alloc);
     let mut ways = Vec::new(alloc);
     let mut pace = Pace::new();
+    let mut read = 0;
     let mut end = None;
     'search: while let Some(scan) = frontier.take()? {
         if is_end(labels, &ends, scan) {
@@ -53,17 +58,20 @@ pub(crate) fn explore_all<G: Graph, L: Labels>(
             end = Some(scan);
             continue;
         }
+        read = read_ahead(graph, &frontier, read);
         explore(&mut frontier, &mut given, &mut ways, graph, machine, scan)?;
         if let Some(most) = passed_before(limit, &mut pace, &frontier) {
             return Ok(Explored {
                 frontier,
                 end: Limited::Stopped(most),
+                read,
             });
         }
     }
     Ok(Explored {
         frontier,
         end: Limited::Ended(end),
+        read,
     })
 }
 

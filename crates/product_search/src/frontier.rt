@@ -2,7 +2,7 @@
 
 ghost use Rattle.std.specs.Prelude.{◌≡◌, ◌≢◌, ℕ, ◌<◌, ◌≤◌, ◌^◌, [], IfSome, IfNone, IfOk, OnOk, MatchOption, slice_index, ◌+◌, ◌-◌, length};
 ghost use Rattle.product_search.specs.inside.Exploring.{IsGiven, IsReachedIfWanted, Offers};
-ghost use Rattle.product_search.specs.inside.Waiting.{IsFrontier, IsReachedBy, IsAt, IsNowhere, IsClear, HasChainsFrom, IsScanOf, IsPassedOver, Takes, TakesNone, Waits, rows, taken_as, delay_at};
+ghost use Rattle.product_search.specs.inside.Waiting.{IsFrontier, IsReachedBy, IsAt, IsNowhere, IsClear, HasChainsFrom, IsScanOf, IsPassedOver, Takes, TakesNone, IsReady, GivesItem, PutsAgain, Rearranges, Waits, rows, taken_as, delay_at};
 
 use crate::chains::Chains;
 use crate::queue::{Item, Queue};
@@ -25,7 +25,8 @@ pub(crate) struct Scan {
 /// The product states that are reached, each with a number, and all ways that were taken to them. Of each whose arcs are to be
 /// explored there is an item in the queue.
 ///
-/// An item stays in the queue where a better way is found later, and is passed over when it comes up.
+/// An item stays in the queue where a better way is found later, and is passed over when it comes up, or when its lot is put in
+/// again.
 #[derive(Drop)]
 pub(crate) struct Frontier {
     /// The departure, from which delays are counted.
@@ -55,6 +56,7 @@ impl Frontier {
             ways,
             first,
             queue,
+            read: _read,
         } = workspace;
         Frontier {
             base,
@@ -220,12 +222,69 @@ impl Frontier {
         ensures some { IfOk result (λ r. IfSome r (Takes self.old self.new)) }
         ensures none { IfOk result (λ r. IfNone r (TakesNone self.old self.new)) }
     {
-        while let Some(item) = self.queue.pop(self.until)? {
+        while let Some(item) = self.next_item()? {
             if let Some(scan) = self.scan_of(item) {
                 return Ok(Some(scan));
             }
         }
         Ok(None)
+    }
+
+    /// Takes an item from the queue, if any waits for a delay that is wanted.
+    #[inline(always)]
+    fn next_item(&mut self) -> Result<Option<Item>, AllocError>
+        requires { IsFrontier self.old }
+        ensures some { IfOk result (λ r. IfSome r (GivesItem self.old self.new)) }
+        ensures none { IfOk result (λ r. IfNone r (TakesNone self.old self.new)) }
+    {
+        if self.queue.is_spent() {
+            self.next_lot()?;
+        }
+        Ok(self.queue.pop())
+    }
+
+    /// Has the queue take the next lot, from narrower buckets where it is crowded.
+    #[inline(never)]
+    fn next_lot(&mut self) -> Result<(), AllocError>
+        requires right { IsFrontier self.old }
+        requires spent { self.old.queue.current.items ≡ [] }
+        ensures keeps { OnOk result (Rearranges self.old self.new) }
+        ensures ready { OnOk result (IsReady self.new) }
+    {
+        self.queue.next_lot(self.until)?;
+        if self.queue.is_spent() || !self.queue.is_crowded() {
+            return Ok(());
+        }
+        self.spread()?;
+        self.queue.next_lot(self.until)
+    }
+
+    /// Has the queue cut the bucket in turn, and puts its lot in again, without the items that are stale.
+    fn spread(&mut self) -> Result<(), AllocError>
+        requires { IsFrontier self.old }
+        ensures keeps { OnOk result (Rearranges self.old self.new) }
+        ensures spent { OnOk result (self.new.queue.current.items ≡ []) }
+    {
+        let mut lot = self.queue.narrow()?;
+        'lot: while let Some(item) = lot.pop() {
+            self.put_again(item)?;
+        }
+        Ok(())
+    }
+
+    /// Puts an item in again, if no better way was found since.
+    fn put_again(&mut self, item: Item) -> Result<(), AllocError>
+        requires { IsFrontier self.old }
+        ensures { OnOk result (PutsAgain self.old self.new item) }
+    {
+        let Some(row) = self.rows.get(item.row as usize) else {
+            return Ok(());
+        };
+        if row.way == item.way {
+            self.queue.push(row.delay, item)
+        } else {
+            Ok(())
+        }
     }
 
     /// The product state of an item, if no better way to it was found since and it is wanted.

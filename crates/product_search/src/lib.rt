@@ -2,6 +2,7 @@
 //! bounds every accepted walk. Both are proved once, for all graphs and automata.
 #![tactic(auto)]
 
+mod ahead;
 mod arc_check;
 mod arrivals;
 mod chains;

@@ -1,7 +1,7 @@
 //! The queue of the product states that wait: buckets of those whose times are near to each other.
 
-ghost use Rattle.std.specs.Prelude.{◌≡◌, ◌≢◌, ◌+◌, ◌*◌, ◌^◌, ◌<◌, ◌≤◌, ℕ, [], All, Contains, IfOk, IfSome, IfNone, OnOk, length, map};
-ghost use Rattle.product_search.specs.inside.Queued.{Queued, AreBuckets, IsQueue, IsEmptyQueue, TakesIn, Gives, GivesNone, PutsAt, Moves, Turns, begin_of, bucket_of, bucketed_len};
+ghost use Rattle.std.specs.Prelude.{◌≡◌, ◌≢◌, ◌↔◌, ◌+◌, ◌*◌, ◌^◌, ◌<◌, ◌≤◌, ℕ, [], All, Contains, IfOk, IfSome, IfNone, IsTrue, OnOk, length, map};
+ghost use Rattle.product_search.specs.inside.Queued.{Queued, AreBuckets, IsQueue, IsEmptyQueue, TakesIn, Gives, PutsAt, PutsLater, Moves, Turns, Narrows, begin_of, bucket_of, bucketed_len};
 
 use std::alloc::{AllocError, Global};
 use std::mem;
@@ -29,12 +29,21 @@ const FIRST_BITS: u32 = 15;
 /// With buckets of 2^54 ms a round has all times.
 const MOST_BITS: u32 = 54;
 
-/// Items by their delays: those of a bucket are given out in the order in which they came, and those that come into the bucket in
-/// turn after the ones that were there. Delays past the last bucket wait for the next round of buckets, which begins with the
-/// least of them.
+/// A bucket that has given more lots than that is cut.
+const MOST_LOTS: u32 = 16;
+
+/// A bucket is cut into 2^5 narrower ones, or into those of 1 ms where it is not that wide.
+const FEWER_BITS: u32 = 5;
+
+/// Items by their delays, given out lot by lot. A lot is what a bucket had when its turn came, or came again, in the order in which
+/// that came in; what comes into the bucket in turn meanwhile is of its next lot. Delays past the last bucket wait for the next
+/// round of buckets, which begins with the least of them.
+///
+/// Where much lies in one bucket, better ways to it are found from within, and each lot explores it once more. So a bucket that
+/// has given many lots is cut into narrower ones, which begin a round.
 #[derive(Drop)]
 pub(crate) struct Queue {
-    /// What is left of the bucket in turn as it was when its turn came, the first one last.
+    /// What is left of the lot in turn, the first one last.
     pub current: Vec<Item>,
     /// What has come into each bucket. Those past the end have none.
     pub buckets: Vec<Vec<Item>>,
@@ -48,6 +57,8 @@ pub(crate) struct Queue {
     pub next_bits: u32,
     /// What waits for a later round, in no order.
     pub later: Vec<LateItem>,
+    /// How many lots the bucket in turn has given.
+    pub lots: u32,
 }
 
 impl Queue {
@@ -64,6 +75,7 @@ impl Queue {
             bits: FIRST_BITS,
             next_bits: FIRST_BITS,
             later: Vec::new(alloc),
+            lots: 0,
         }
     }
 
@@ -81,6 +93,7 @@ impl Queue {
             bits: _bits,
             next_bits: _next_bits,
             mut later,
+            lots: _lots,
         } = self;
         current.clear();
         clear_all(&mut buckets);
@@ -93,6 +106,7 @@ impl Queue {
             bits: FIRST_BITS,
             next_bits: FIRST_BITS,
             later,
+            lots: 0,
         }
     }
 
@@ -134,17 +148,41 @@ impl Queue {
         Ok(())
     }
 
-    /// Gives out an item of the first bucket that has any, unless that begins at `until` or later.
+    /// Gives out an item of the lot in turn, if that has any left.
     #[inline(always)]
-    pub fn pop(&mut self, until: u64) -> Result<Option<Item>, AllocError>
+    pub fn pop(&mut self) -> Option<Item>
         requires { IsQueue self.old }
-        ensures some { IfOk result (λ r. IfSome r (Gives self.old self.new)) }
-        ensures none { IfOk result (λ r. IfNone r (GivesNone self.old self.new until)) }
+        ensures right { IsQueue self.new }
+        ensures some { IfSome result (Gives self.old self.new) }
+        ensures none { IfNone result (self.old.current.items ≡ []) }
     {
-        if self.current.is_empty() {
-            self.next_bucket(until)?;
-        }
-        Ok(self.current.pop())
+        self.current.pop()
+    }
+
+    /// How many items are left of the lot in turn.
+    #[inline(always)]
+    pub fn left(&self) -> usize {
+        self.current.len()
+    }
+
+    /// Those that come up next, at most so many, the first one last.
+    #[inline(always)]
+    pub fn next(&self, count: usize) -> &[Item] {
+        let left = self.current.len();
+        &self.current[left - left.min(count)..]
+    }
+
+    /// Whether nothing is left of the lot in turn.
+    #[inline(always)]
+    pub fn is_spent(&self) -> bool
+        ensures { IsTrue result ↔ (self.now.current.items ≡ []) }
+    {
+        self.current.is_empty()
+    }
+
+    /// Whether the bucket in turn has given so many lots that it should be cut.
+    pub fn is_crowded(&self) -> bool {
+        self.lots > MOST_LOTS && self.bits > 0
     }
 
     /// When the bucket in turn begins: nothing waits for a delay before that.
@@ -152,24 +190,68 @@ impl Queue {
         requires { IsQueue self.now }
         ensures { (t : ℕ) (x : Item) → Queued self.now t x → result ≤ t }
     {
-        if self.turn == 0 {
+        self.begin(self.turn)
+    }
+
+    /// When the bucket at a place begins.
+    fn begin(&self, place: usize) -> u64
+        requires { self.now.bits ≤ 54 }
+        ensures { result ≤ begin_of self.now place }
+    {
+        if place == 0 {
             0
         } else {
-            self.start.saturating_add((self.turn as u64) << self.bits)
+            self.start.saturating_add((place as u64) << self.bits)
         }
     }
 
-    /// Has the turn come to the first bucket that has any, unless that begins at `until` or later.
-    #[inline(never)]
-    fn next_bucket(&mut self, until: u64) -> Result<(), AllocError>
+    /// Takes the next lot: what is in the first bucket that has any, unless that begins at `until` or later.
+    pub fn next_lot(&mut self, until: u64) -> Result<(), AllocError>
         requires right { IsQueue self.old }
         requires empty { self.old.current.items ≡ [] }
         ensures { OnOk result (Turns self.old self.new until) }
     {
+        let before = self.turn;
         self.find_bucket()?;
+        self.lots = if self.turn == before {
+            self.lots.saturating_add(1)
+        } else {
+            1
+        };
         if self.turn < self.buckets.len() && self.floor() < until {
             mem::swap(&mut self.current, &mut self.buckets[self.turn]);
             self.current.reverse();
+        }
+        Ok(())
+    }
+
+    /// Begins a round of narrower buckets with the one in turn, and gives out its lot, which has to be put in again.
+    pub fn narrow(&mut self) -> Result<Vec<Item>, AllocError>
+        requires { IsQueue self.old }
+        ensures { IfOk result (λ lot. Narrows self.old self.new lot.items) }
+    {
+        let alloc = *self.current.allocator();
+        let lot = mem::replace(&mut self.current, Vec::new(alloc));
+        self.put_off()?;
+        self.start = self.begin(self.turn).max(self.start);
+        self.turn = 0;
+        self.bits = self.bits.saturating_sub(FEWER_BITS);
+        self.next_bits = self.bits;
+        self.lots = 0;
+        self.move_due()?;
+        Ok(lot)
+    }
+
+    /// Puts off what is in buckets, each item to when its bucket begins.
+    fn put_off(&mut self) -> Result<(), AllocError>
+        requires { AreBuckets self.old }
+        ensures right { OnOk result (AreBuckets self.new) }
+        ensures moves { OnOk result (Moves self.old self.new) }
+        ensures none { OnOk result ((k : ℕ) → bucket_of self.new.buckets.items k ≡ []) }
+    {
+        for place in 0..self.buckets.len() {
+            let delay = self.begin(place);
+            put_later(&mut self.buckets[place], &mut self.later, delay)?;
         }
         Ok(())
     }
@@ -272,6 +354,21 @@ fn least_delay(items: &[LateItem]) -> u64
         .map(|late| late.delay)
         .min()
         .unwrap_or(u64::MAX)
+}
+
+/// Puts what is in a bucket to the later ones, to wait for a delay.
+fn put_later(
+    bucket: &mut Vec<Item>,
+    later: &mut Vec<LateItem>,
+    delay: u64,
+) -> Result<(), AllocError>
+    ensures none { OnOk result (bucket.new.items ≡ []) }
+    ensures later { OnOk result (PutsLater delay bucket.old.items bucket.new.items later.old.items later.new.items) }
+{
+    'items: while let Some(item) = bucket.pop() {
+        later.push(LateItem { delay, item })?;
+    }
+    Ok(())
 }
 
 /// Makes buckets up to a place, if there are none.

@@ -61,7 +61,11 @@ pub fn search_within<G: Graph, L: Labels>(
 {
     let workspace = Workspace::new(alloc);
     let answered = answer(alloc, workspace, question, limit)?;
-    let Answered { frontier, best } = answered;
+    let Answered {
+        frontier,
+        best,
+        read: _read,
+    } = answered;
     let best = match best {
         Limited::Ended(best) => best,
         Limited::Stopped(most) => return Ok(Limited::Stopped(most)),
@@ -95,16 +99,20 @@ pub fn search_counted_within<G: Graph, L: Labels>(
 {
     let kept = workspace.take(alloc);
     let answered = answer(alloc, kept, question, limit)?;
-    let Answered { frontier, best } = answered;
+    let Answered {
+        frontier,
+        best,
+        read,
+    } = answered;
     let best = match best {
         Limited::Ended(best) => best,
         Limited::Stopped(most) => {
-            workspace.put(frontier);
+            workspace.put(frontier, read);
             return Ok(Limited::Stopped(most));
         }
     };
     let labels = count_labels(&frontier, frontier.until);
-    workspace.put(frontier);
+    workspace.put(frontier, read);
     if let Some(most) = passed(limit, labels) {
         return Ok(Limited::Stopped(most));
     }
@@ -128,8 +136,12 @@ pub fn search_best_with<G: Graph, L: Labels>(
 {
     let kept = workspace.take(alloc);
     let answered = answer(alloc, kept, question, None)?;
-    let Answered { frontier, best } = answered;
-    workspace.put(frontier);
+    let Answered {
+        frontier,
+        best,
+        read,
+    } = answered;
+    workspace.put(frontier, read);
     Ok(best.into_answer())
 }
 
@@ -138,6 +150,8 @@ pub fn search_best_with<G: Graph, L: Labels>(
 pub(crate) struct Answered {
     pub frontier: Frontier,
     pub best: Limited<Best>,
+    /// What was read ahead.
+    pub read: u32,
 }
 
 /// Explores product states up to the best end, and tells its arrival and the walk to it, or is given up on the way.
@@ -150,7 +164,11 @@ fn answer<G: Graph, L: Labels>(
     ensures { IfOk result (λ a. IsAnsweredWithin (question_of question.now) limit a.frontier a.best) }
 {
     let explored = explore_all(alloc, workspace, question, limit)?;
-    let Explored { frontier, end } = explored;
+    let Explored {
+        frontier,
+        end,
+        read,
+    } = explored;
     match end {
         Limited::Ended(end) => {
             let arrival = arrival_of(&frontier, end);
@@ -158,11 +176,13 @@ fn answer<G: Graph, L: Labels>(
             Ok(Answered {
                 frontier,
                 best: Limited::Ended(Best { arrival, walk }),
+                read,
             })
         }
         Limited::Stopped(most) => Ok(Answered {
             frontier,
             best: Limited::Stopped(most),
+            read,
         }),
     }
 }

@@ -72,20 +72,15 @@ IsEmptyQueue q = (t : ℕ) (x : Item) → Queued q t x → ⊥
 -- x is taken in, to wait for the delay t
 pub record TakesIn (old new : Queue) (t : ℕ) (x : Item) : Type 0 where
   pub right : IsQueue new
+  pub current : new.current ≡ old.current
   pub stays : (u : ℕ) (y : Item) → Queued old u y → Queued new u y
   pub there : Queued new t x
   pub more : queue_len new ≡ queue_len old + 1
 
 -- x is given out
 pub record Gives (old new : Queue) (x : Item) : Type 0 where
-  pub right : IsQueue new
   pub stays : (u : ℕ) (y : Item) → Queued old u y → (y ≡ x) ⊎ Queued new u y
   pub fewer : queue_len new + 1 ≡ queue_len old
-
--- nothing waits for a delay before `until`
-pub record GivesNone (old new : Queue) (until : ℕ) : Type 0 where
-  pub right : IsQueue new
-  pub none : (u : ℕ) (y : Item) → Queued old u y → until ≤ u
 
 -- x is put into the bucket at a place
 pub record PutsAt (old new : Queue) (place : ℕ) (x : Item) : Type 0 where
@@ -97,6 +92,12 @@ pub record PutsAt (old new : Queue) (place : ℕ) (x : Item) : Type 0 where
   pub stays : (u : ℕ) (y : Item) → Queued old u y → Queued new u y
   pub there : (u : ℕ) → begin_of old place ≤ u → Queued new u x
   pub more : queue_len new ≡ queue_len old + 1
+
+-- what a bucket had waits later for the delay d, but for what is left of it
+pub record PutsLater (d : ℕ) (bucket left : List Item) (old new : List LateItem) : Type 0 where
+  pub stays : (x : LateItem) → Contains old x → Contains new x
+  pub there : (y : Item) → Contains bucket y → Contains left y ⊎ Contains new (record { delay = d; item = y })
+  pub as_many : length new + length left ≡ length old + length bucket
 
 -- items are moved, and none goes out
 pub record Moves (old new : Queue) : Type 0 where
@@ -110,3 +111,10 @@ pub record Turns (old new : Queue) (until : ℕ) : Type 0 where
   pub stays : (u : ℕ) (y : Item) → Queued old u y → Queued new u y
   pub as_many : queue_len new ≡ queue_len old
   pub none : new.current.items ≡ [] → (u : ℕ) (y : Item) → Queued new u y → until ≤ u
+
+-- the lot in turn goes out, and nothing else does
+pub record Narrows (old new : Queue) (lot : List Item) : Type 0 where
+  pub right : IsQueue new
+  pub current : new.current.items ≡ []
+  pub stays : (u : ℕ) (y : Item) → Queued old u y → Contains lot y ⊎ Queued new u y
+  pub as_many : queue_len new + length lot ≡ queue_len old

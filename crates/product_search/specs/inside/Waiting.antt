@@ -1,5 +1,5 @@
 -- What is reached, and who waits in the queue.
-use Rattle.std.specs.Prelude.{◌≡◌, ℕ, ◌≤◌, suc, ◌+◌, ◌*◌, ◌/◌, ◌-◌, ◌<◌, ◌^◌, ◌⊎◌, List, length, slice_index, slice_get, Some, nat_lt, if◌then◌else◌, bit_and}
+use Rattle.std.specs.Prelude.{◌≡◌, ℕ, ◌≤◌, suc, ◌+◌, ◌*◌, ◌/◌, ◌-◌, ◌<◌, ◌^◌, ◌⊎◌, List, [], length, slice_index, slice_get, Some, nat_lt, if◌then◌else◌, bit_and}
 use Rattle.product_search.specs.inside.Queued.{Queued, IsQueue, queue_len}
 use Rattle.product_search.specs.declared.queue.Item.{Item}
 use Rattle.product_search.specs.declared.row.Reached.{Reached}
@@ -111,6 +111,33 @@ pub record IsSameBut (old new : Frontier) : Type 0 where
   pub until : new.until ≡ old.until
   pub rows : rows new ≡ rows old
   pub ways : ways new ≡ ways old
+
+-- items are moved in the queue, and each row that waits does so still
+pub record Rearranges (old new : Frontier) : Type 0 where
+  pub same : IsSameBut old new
+  pub right : IsFrontier new
+  pub stay : (k : ℕ) (r : Row) → slice_get (rows old) k ≡ Some r → Waits old k r → Waits new k r
+  pub no_more : queue_len new.queue ≤ queue_len old.queue
+
+-- the lot in turn has some, or nobody waits for a delay that is wanted
+abbrev pub IsReady : Frontier → Type 0
+IsReady f = f.queue.current.items ≡ [] → (k : ℕ) (r : Row) → Waits f k r → f.until ≤ r.delay
+
+-- x is put in again, unless its row has another last way
+pub record PutsAgain (old new : Frontier) (x : Item) : Type 0 where
+  pub same : IsSameBut old new
+  pub right : IsFrontier new
+  pub current : new.queue.current ≡ old.queue.current
+  pub stay : (k : ℕ) (r : Row) → Waits old k r → Waits new k r
+  pub there : (r : Row) → slice_get (rows old) x.row ≡ Some r → r.way ≡ x.way → Waits new x.row r
+  pub no_more : queue_len new.queue ≤ queue_len old.queue + 1
+
+-- x is given out of the queue
+pub record GivesItem (old new : Frontier) (x : Item) : Type 0 where
+  pub same : IsSameBut old new
+  pub right : IsFrontier new
+  pub others : (k : ℕ) (r : Row) → slice_get (rows old) k ≡ Some r → Waits old k r → ((k ≡ x.row) × (r.way ≡ x.way)) ⊎ Waits new k r
+  pub fewer : queue_len new.queue < queue_len old.queue
 
 -- s is the row of the item, with its last way, which is that of the item, and is wanted
 pub record IsScanOf (f : Frontier) (x : Item) (s : Scan) : Type 0 where
