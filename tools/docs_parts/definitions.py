@@ -12,7 +12,9 @@ HEAD = re.compile(r"^ *(?:abbrev |unfoldable )*pub (?!mod )(?:record |data |unfo
 PRIVATE = re.compile(r"^(?:abbrev|unfoldable) (?!mutual|pub )([^\s:({]+)")
 FIELD = re.compile(r"^  pub ")
 CONSTRUCTOR = re.compile(r"^  (\w+) : ")
-USE = re.compile(r"(?:pub )?use Rattle\.(\w+)\.specs\.([\w.]+?)(?:\.\{(.*)\}| as (\w+))?$")
+USE = re.compile(r"(?:pub )?use Rattle\.(\w+)\.specs(?:\.([\w.]+?))?(?:\.\{(.*)\}| as (\w+))?$")
+# What the page of a folder passes on of the pages in it.
+PASSED = re.compile(r"(?:unfoldable )?pub use (\w+)\.\{(.*)\}$")
 WORD = re.compile(r"[^\s(){};,λ×.:]+(?:\.[^\s(){};,λ×.:]+)?")
 STD = {"std", "core", "logic", "io", "os"}
 
@@ -108,6 +110,8 @@ class Library:
                 current = current if line.strip() and is_record else None
             elif used := USE.match(code):
                 self.enter(known, used)
+            elif passed := PASSED.match(code):
+                self.pass_on(page, passed)
             else:
                 head = HEAD.match(code) or PRIVATE.match(code)
                 if head and not (current and is_record and FIELD.match(code)):
@@ -126,16 +130,17 @@ class Library:
             known[built[1]] = current
 
     def enter(self, known: dict, used: re.Match) -> None:
-        crate, name, names, alias = used.groups()
+        crate, name, names, alias = used.groups(default="")
         if crate in STD or name.split(".")[0] == "declared":
             return
-        page = Page(crate, name.replace(".", "/"))
-        for item in (names or "").split(", "):
-            plain, _, other = item.strip().partition(" as ")
-            for word in names_of(other or plain):
-                known[word] = Definition(page, plain)
+        page = Page(crate, name.replace(".", "/") or "Lib")
+        bring(known, page, names)
         if alias:
             known[alias] = page
+
+    def pass_on(self, folder: Page, passed: re.Match) -> None:
+        name, names = passed.groups()
+        bring(self.known[folder], Page(folder.crate, name if folder.name == "Lib" else f"{folder.name}/{name}"), names)
 
     def found(self, definition: Definition | Page | None) -> Definition | None:
         """Where a word is defined that a page names, which may have it from another page."""
@@ -175,6 +180,17 @@ class Library:
     def count(self, found: set[Definition]) -> str:
         pages = len({one.page for one in found})
         return f"{len(found)} definitions on {pages} pages, {sum(self.lines[one] for one in found)} lines"
+
+
+def bring(known: dict[str, Definition | Page], page: Page, names: str) -> None:
+    """Enters names of a page, or of pages below it, as `Page.name`, by the words that stand for them."""
+    for item in names.split(", "):
+        path, _, other = item.strip().partition(" as ")
+        below, _, plain = path.rpartition(".")
+        if below.split(".")[0] != "declared":
+            home = Page(page.crate, below.replace(".", "/")) if below else page
+            for word in names_of(other or plain):
+                known[word] = Definition(home, plain)
 
 
 def page_at(path: pathlib.Path) -> Page:

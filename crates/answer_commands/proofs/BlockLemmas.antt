@@ -1,16 +1,11 @@
 -- What a certificate proves is right to say, and can be printed.
-use Rattle.std.proofs.Common.{ℕ, List, Option, Some, None}
-use Rattle.mode_network.specs.NetworkLists.{NetworkLists}
-use Rattle.journey.specs.Best.{Asked, Asks, IsRightBody}
-use Rattle.mode_network.specs.Journeys.{Route}
-use Rattle.mode_network.specs.Rules.{IsNetwork}
-use Rattle.journey.specs.Blocks.{IsBlockText, IsPrintableBody}
+use Rattle.plan_base.proofs.Common.{ℕ, List, Option, Some, None}
+use Rattle.mode_network.specs.{NetworkLists.NetworkLists, Route, IsNetwork}
+use Rattle.journey.specs.{Asked, Asks, IsRightBody, IsBlockText, IsPrintableBody}
 use Rattle.journey.proofs.CopyLemmas.{copy_in_range}
-use Rattle.hierarchy.specs.Lists.{HierarchyLists}
-use Rattle.certificate.specs.Certificates.{Claim}
-use Rattle.certificate.specs.Texts.{IsCertText, FitsResult}
-use Rattle.certificate.specs.Valid.{IsValid, Proves, ResultHolds, IsBestResult}
-use Rattle.answer_commands.specs.Outputs.{IsShown, body_of}
+use Rattle.hierarchy.specs.{HierarchyLists}
+use Rattle.certificate.specs.{Claim, IsCertText, FitsResult, IsValid, Proves, ResultHolds, IsBestResult}
+use Rattle.answer_commands.specs.{IsShown, body_of}
 
 -- what a certificate proves is right to say
 proved_body : (n : NetworkLists) (line : List ℕ) (asked : Asked) → Asks n line asked → (result : Option (ℕ × Route)) → IsBestResult n asked result → IsRightBody n line (body_of result)

@@ -1,18 +1,13 @@
 -- A region and a hierarchy that were read, or not: what a run says of them.
-use Rattle.std.proofs.Common.{ℕ, inl, inr, List, Option}
-use Rattle.plan_base.specs.Shelves.{ShelfMeaning}
-use Rattle.plan_base.specs.Sinks.{SinkMeaning, Stays}
-use Rattle.plan_base.specs.declared.limits.Caps.{Caps}
+use Rattle.plan_base.proofs.Common.{ℕ, inl, inr, List, Option}
+use Rattle.plan_base.specs.{ShelfMeaning, SinkMeaning, Stays, Caps}
 use Rattle.mode_network.specs.NetworkLists.{NetworkLists}
-use Rattle.hierarchy.specs.Lists.{HierarchyLists}
-use Rattle.hierarchy_commands.specs.Commands.{OnHierarchyIfNamed}
+use Rattle.hierarchy.specs.{HierarchyLists}
+use Rattle.hierarchy_commands.specs.{OnHierarchyIfNamed}
 use Rattle.hierarchy_commands.proofs.OutcomeLemmas.{named_fails, on_named}
-use Rattle.run_steps.specs.declared.outcome.Outcome.{Outcome}
-use Rattle.run_steps.specs.Regions.{OnRegion}
-use Rattle.run_steps.specs.Scene.{scene}
-use Rattle.run_steps.specs.Sayings.{Saying}
+use Rattle.run_steps.specs.{Outcome, OnRegion, scene, Saying}
 use Rattle.run_steps.proofs.Steps.{region_fails, on_region}
-use Rattle.answer_commands.specs.Working.{HasBoth, IsBothOutcome}
+use Rattle.answer_commands.specs.{HasBoth, IsBothOutcome}
 
 module _ (caps : Caps) (old mid new : ShelfMeaning) (before after : SinkMeaning) (region : List ℕ) (named : Option (List ℕ)) (rest : NetworkLists → Option HierarchyLists → Saying) where
   -- they were not both read

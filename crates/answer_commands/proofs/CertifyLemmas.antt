@@ -1,18 +1,11 @@
 -- What `certify` writes within a limit on labels.
-use Rattle.std.proofs.Common.{◌≢◌, ℕ, ◌≤◌, ◌∙◌, inl, inr, List, length, Option, Some, None, ap}
-use Rattle.std.specs.Prelude.{IfSome}
+use Rattle.plan_base.proofs.Common.{◌≢◌, ℕ, ◌≤◌, ◌∙◌, inl, inr, List, length, Option, Some, None, ap, IfSome}
 use Rattle.mode_network.specs.NetworkLists.{NetworkLists}
-use Rattle.hierarchy.specs.Lists.{HierarchyLists}
-use Rattle.product_search.specs.declared.label.Label.{Label}
-use Rattle.journey.specs.declared.answer.BlockBody.TheVariants.{Refused}
-use Rattle.journey.specs.declared.fault.QueryFault.{QueryFault}
-use Rattle.journey.specs.declared.fault.QueryFault.TheVariants.{OutOfMemory}
-use Rattle.journey.specs.Best.{Asked, Asks, IsRefusedBlock}
-use Rattle.journey.specs.Blocks.{IsBlockText}
-use Rattle.journey.specs.Queries.{IsRefusal, IsRefused}
-use Rattle.journey.specs.Texts.{block_text}
-use Rattle.planning.specs.Plans.{AreTheLabels}
-use Rattle.answer_commands.specs.Outputs.{IsCertificateFor, IsCertifiedWithin}
+use Rattle.hierarchy.specs.{HierarchyLists}
+use Rattle.product_search.specs.{Label}
+use Rattle.journey.specs.{Refused, QueryFault, OutOfMemory, Asked, Asks, IsRefusedBlock, IsBlockText, IsRefusal, IsRefused, block_text}
+use Rattle.planning.specs.{AreTheLabels}
+use Rattle.answer_commands.specs.{IsCertificateFor, IsCertifiedWithin}
 
 module _ (n : NetworkLists) (h : Option HierarchyLists) (line out : List ℕ) where
   -- a certificate whose labels are no more than the limit

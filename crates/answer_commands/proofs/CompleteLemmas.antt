@@ -1,26 +1,15 @@
 -- A run whose files are there and without fault ends with its work done: each other outcome has a cause that is not there.
-use Rattle.std.proofs.Common.{◌≡◌, ℕ, List, Option, None, Some, sym, subst}
-use Rattle.mode_network.specs.NetworkLists.{NetworkLists}
-use Rattle.mode_network.specs.Rules.{IsNetwork}
-use Rattle.certificate.specs.declared.verdict.CertFault.TheVariants.{BadLine}
+use Rattle.plan_base.proofs.Common.{◌≡◌, ℕ, List, Option, None, Some, sym, subst}
+use Rattle.mode_network.specs.{NetworkLists.NetworkLists, IsNetwork}
+use Rattle.certificate.specs.{BadLine, Claim, IsCertText, HasCause, IsCertVerdict}
 use Rattle.certificate.specs.declared.verdict.CertVerdict.TheVariants as verdict
-use Rattle.certificate.specs.Certificates.{Claim}
-use Rattle.certificate.specs.Texts.{IsCertText}
-use Rattle.certificate.specs.Reading.{HasCause}
-use Rattle.certificate.specs.Verdicts.{IsCertVerdict}
-use Rattle.certificate.proofs.ReadLaws.{again, bad_line_is}
-use Rattle.certificate.proofs.UniqueLemmas.{verdict_is_unique}
-use Rattle.run_steps.proofs.CertificateComplete.{verified_completes}
-use Rattle.hierarchy.specs.Lists.{HierarchyLists}
+use Rattle.certificate.proofs.{ReadLaws.again, ReadLaws.bad_line_is, UniqueLemmas.verdict_is_unique}
+use Rattle.run_steps.proofs.{CertificateComplete.verified_completes, TurnComplete.in_turn_completes, CompleteSteps.file_completes, CompleteSteps.network_completes, CompleteSteps.writes_completes}
+use Rattle.hierarchy.specs.{HierarchyLists}
 use Rattle.hierarchy_commands.proofs.CompleteLemmas.{named_completes}
-use Rattle.phase_graph.specs.InUse.{IsSoundIfGiven}
-use Rattle.run_steps.proofs.TurnComplete.{in_turn_completes}
-use Rattle.run_steps.proofs.CompleteSteps.{file_completes, network_completes, writes_completes}
-use Rattle.run_steps.specs.declared.limits.Limits.{Limits}
-use Rattle.run_steps.specs.Complete.{Files, Completes, IsDoneOrMemory}
-use Rattle.answer_commands.specs.Answers.{WritesSettled}
-use Rattle.answer_commands.specs.Outputs.{best_certificates}
-use Rattle.answer_commands.specs.Complete.{SpellsValid, AnswerCompletes, CertifyCompletes, VerifyCompletes}
+use Rattle.phase_graph.specs.{IsSoundIfGiven}
+use Rattle.run_steps.specs.{declared.limits.Limits.Limits, Files, Completes, IsDoneOrMemory}
+use Rattle.answer_commands.specs.{WritesSettled, best_certificates, SpellsValid, AnswerCompletes, CertifyCompletes, VerifyCompletes}
 
 -- bytes that spell a valid certificate have no line that may not stand, and no clause that fails
 spells : (n : NetworkLists) (h : Option HierarchyLists) (bytes : List ℕ) → SpellsValid n h bytes → (line : ℕ) → HasCause bytes (BadLine line) → ⊥

@@ -1,10 +1,7 @@
 -- A hierarchy that is lent.
-use Rattle.std.proofs.Common.{◌≡◌, Option, Some, None, Bor, refl, sym, subst}
-use Rattle.std.specs.Prelude.{IfSome, is_some, option_map}
+use Rattle.plan_base.proofs.Common.{◌≡◌, Option, Some, None, Bor, refl, sym, subst, IfSome, is_some, option_map}
 use Rattle.mode_network.specs.NetworkLists.{NetworkLists}
-use Rattle.hierarchy.specs.declared.hierarchy.Hierarchy.{Hierarchy}
-use Rattle.hierarchy.specs.Lists.{HierarchyLists}
-use Rattle.hierarchy.specs.Soundness.{IsSound}
+use Rattle.hierarchy.specs.{declared.hierarchy.Hierarchy.Hierarchy, HierarchyLists, IsSound}
 
 -- one that is sound is so where it is lent
 pub lent_sound : (n : NetworkLists) (lent : Option (Bor Hierarchy)) (h : Option HierarchyLists) → option_map (λ x. x.now) lent ≡ h → IfSome h (λ k. IsSound n k) → IfSome lent (λ x. IsSound n x.now)

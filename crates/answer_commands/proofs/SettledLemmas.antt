@@ -1,21 +1,12 @@
 -- The line `settled` behind the blocks of an answer.
-use Rattle.std.proofs.Common.{◌≡◌, ℕ, inl, true, false, List, Option, Some, None, refl}
-use Rattle.std.specs.Prelude.{⊤, Result, IfErr, OnOk, is_some}
-use Rattle.plan_base.specs.Shelves.{ShelfMeaning}
-use Rattle.plan_base.specs.Sinks.{SinkMeaning, Appended}
+use Rattle.plan_base.proofs.Common.{◌≡◌, ℕ, inl, true, false, List, Option, Some, None, refl, ⊤, Result, IfErr, OnOk, is_some}
+use Rattle.plan_base.specs.{ShelfMeaning, SinkMeaning, Appended}
 use Rattle.plan_base.proofs.MoreWritten.{stays_so}
 use Rattle.mode_network.specs.NetworkLists.{NetworkLists}
-use Rattle.hierarchy.specs.Lists.{HierarchyLists}
-use Rattle.run_steps.specs.Blocks.{AreCounted}
-use Rattle.run_steps.specs.declared.limits.Limits.{Limits}
-use Rattle.run_steps.specs.declared.outcome.Outcome.{Outcome}
-use Rattle.run_steps.specs.declared.outcome.Outcome.TheVariants.{Done, OutOfMemory}
-use Rattle.run_steps.specs.QueryLines.{query_lines}
-use Rattle.run_steps.specs.Scene.{scene}
-use Rattle.run_steps.specs.Sayings.{end_of}
-use Rattle.run_steps.specs.Working.{IsTextOutcome}
+use Rattle.hierarchy.specs.{HierarchyLists}
+use Rattle.run_steps.specs.{AreCounted, Outcome, Done, OutOfMemory, query_lines, scene, end_of, IsTextOutcome, declared.limits.Limits.Limits}
 use Rattle.run_steps.proofs.Steps.{text_ends}
-use Rattle.answer_commands.specs.Answers.{IsAnswerCount, IsSettledLine, WritesSettled, settled_line}
+use Rattle.answer_commands.specs.{IsAnswerCount, IsSettledLine, WritesSettled, settled_line}
 
 module _ (n : NetworkLists) (limits : Limits) (shelf : ShelfMeaning) (out : SinkMeaning) (bytes : List ℕ) where
   -- there is none without a hierarchy

@@ -1,15 +1,11 @@
 -- What `answer` writes for a query line within limits, and behind the blocks: with a hierarchy how many labels the searches had.
 use Rattle.std.specs.Prelude.{◌≡◌, ℕ, List, ◌++◌, codes, decimal, Option, Some, None}
-use Rattle.plain_texts.specs.Lines.{with_feed}
+use Rattle.plain_texts.specs.{with_feed}
 use Rattle.mode_network.specs.NetworkLists.{NetworkLists}
-use Rattle.hierarchy.specs.Lists.{HierarchyLists}
-use Rattle.journey.specs.Large.{IsBlockUnder, IsUnder}
-use Rattle.planning.specs.Limits.{IsBlockWithin, IsSettledWithin}
-use Rattle.run_steps.specs.declared.limits.Limits.{Limits}
-use Rattle.run_steps.specs.Blocks.{AreCounted}
-use Rattle.run_steps.specs.QueryLines.{query_lines}
-use Rattle.run_steps.specs.Sayings.{Saying, Ends, WritesText}
-use Rattle.run_steps.specs.declared.outcome.Outcome.TheVariants.{Done}
+use Rattle.hierarchy.specs.{HierarchyLists}
+use Rattle.journey.specs.{IsBlockUnder, IsUnder}
+use Rattle.planning.specs.{IsBlockWithin, IsSettledWithin}
+use Rattle.run_steps.specs.{declared.limits.Limits.Limits, AreCounted, query_lines, Saying, Ends, WritesText, Done}
 
 -- the right block of a query line, of so many places and so many labels at most
 abbrev pub IsAnswer : NetworkLists → Option HierarchyLists → Limits → List ℕ → List ℕ → Type 0

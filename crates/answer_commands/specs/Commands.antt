@@ -1,15 +1,9 @@
 -- What each command says of a run by its outcome.
 use Rattle.std.specs.Prelude.{ℕ, List, Option}
-use Rattle.plan_base.specs.declared.limits.Caps.{Caps}
-use Rattle.run_steps.specs.Certificates.{SaysVerified}
-use Rattle.hierarchy_commands.specs.Commands.{OnHierarchyIfNamed}
-use Rattle.run_steps.specs.declared.outcome.FileRole.TheVariants.{Queries}
-use Rattle.run_steps.specs.declared.limits.Limits.{Limits}
-use Rattle.run_steps.specs.Regions.{OnRegion}
-use Rattle.run_steps.specs.InTurn.{InTurn}
-use Rattle.run_steps.specs.Sayings.{Saying, WritesText}
-use Rattle.answer_commands.specs.Answers.{IsAnswer, WritesSettled}
-use Rattle.answer_commands.specs.Outputs.{IsCertified, best_certificates}
+use Rattle.plan_base.specs.{Caps}
+use Rattle.run_steps.specs.{SaysVerified, OnRegion, Saying, WritesText, declared.outcome.FileRole.TheVariants.Queries, declared.limits.Limits.Limits, InTurn.InTurn}
+use Rattle.hierarchy_commands.specs.{OnHierarchyIfNamed}
+use Rattle.answer_commands.specs.{Answers.IsAnswer, Answers.WritesSettled, Outputs.IsCertified, Outputs.best_certificates}
 
 -- `answer` writes a right block within the limits for each query line of a file, in order and as it is read, and with a hierarchy how many labels its searches had
 abbrev pub SaysAnswer : Caps → Limits → List ℕ → List ℕ → Option (List ℕ) → Saying

@@ -1,15 +1,12 @@
 -- What can be done: the files that a command names are there and without fault.
 use Rattle.std.specs.Prelude.{ℕ, List, Option}
-use Rattle.plan_base.specs.declared.limits.Caps.{Caps}
+use Rattle.plan_base.specs.{Caps}
 use Rattle.mode_network.specs.NetworkLists.{NetworkLists}
-use Rattle.certificate.specs.Certificates.{Claim}
-use Rattle.certificate.specs.Texts.{IsCertText}
-use Rattle.certificate.specs.Valid.{IsValid}
-use Rattle.hierarchy.specs.Lists.{HierarchyLists}
-use Rattle.hierarchy_commands.specs.Complete.{IsSoundIfNamed}
+use Rattle.certificate.specs.{Claim, IsCertText, IsValid}
+use Rattle.hierarchy.specs.{HierarchyLists}
+use Rattle.hierarchy_commands.specs.{IsSoundIfNamed}
 use Rattle.run_steps.specs.declared.outcome.FileRole.TheVariants as role
-use Rattle.run_steps.specs.declared.limits.Limits.{Limits}
-use Rattle.run_steps.specs.Complete.{Files, AreLinesHeld, IsHeld, IsRegionHeld, Completes}
+use Rattle.run_steps.specs.{declared.limits.Limits.Limits, Files, AreLinesHeld, IsHeld, IsRegionHeld, Completes}
 use Rattle.answer_commands.specs.Commands.{SaysAnswer, SaysCertify, SaysVerify}
 
 -- the bytes spell a certificate that is valid

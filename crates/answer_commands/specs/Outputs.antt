@@ -1,24 +1,12 @@
 -- What `certify` and `verify` write.
 use Rattle.std.specs.Prelude.{◌≡◌, ℕ, ◌⊎◌, List, Option, Some, None}
-use Rattle.mode_network.specs.NetworkLists.{NetworkLists}
-use Rattle.mode_network.specs.Journeys.{Route}
-use Rattle.journey.specs.declared.answer.BlockBody.{BlockBody}
-use Rattle.journey.specs.declared.answer.BlockBody.TheVariants.{Journey, Nothing}
-use Rattle.certificate.specs.declared.verdict.CertFault.TheVariants.{BadLine}
+use Rattle.mode_network.specs.{NetworkLists.NetworkLists, Route}
+use Rattle.journey.specs.{BlockBody, Journey, Nothing, IsBlockText, IsBlock, IsRefusedBlock, IsBlockUnder, stopped_block}
+use Rattle.certificate.specs.{BadLine, Claim, IsCertText, HasCause, IsValid, Proves, IsCertVerdict}
 use Rattle.certificate.specs.declared.verdict.CertVerdict.TheVariants as verdict
-use Rattle.journey.specs.Blocks.{IsBlockText}
-use Rattle.journey.specs.Best.{IsBlock, IsRefusedBlock}
-use Rattle.journey.specs.Large.{IsBlockUnder, stopped_block}
-use Rattle.certificate.specs.Certificates.{Claim}
-use Rattle.certificate.specs.Texts.{IsCertText}
-use Rattle.certificate.specs.Reading.{HasCause}
-use Rattle.certificate.specs.Valid.{IsValid, Proves}
-use Rattle.certificate.specs.Verdicts.{IsCertVerdict}
-use Rattle.run_steps.specs.declared.limits.Limits.{Limits}
-use Rattle.run_steps.specs.Certificates.{CertificateKind}
-use Rattle.hierarchy.specs.Lists.{HierarchyLists}
-use Rattle.planning.specs.Plans.{AreTheLabels}
-use Rattle.planning.specs.Limits.{IsWithinLabels}
+use Rattle.run_steps.specs.{declared.limits.Limits.Limits, CertificateKind}
+use Rattle.hierarchy.specs.{HierarchyLists}
+use Rattle.planning.specs.{AreTheLabels, IsWithinLabels}
 
 -- the text of a valid certificate for the line, whose labels are those of the search over the graph in use; it proves what it claims
 pub record IsCertificateFor (n : NetworkLists) (h : Option HierarchyLists) (line out : List ℕ) : Type 0 where

@@ -1,12 +1,10 @@
 -- What reading a region, and a hierarchy where one is named, answers.
 use Rattle.std.specs.Prelude.{ℕ, ◌⊎◌, List, Option}
-use Rattle.plan_base.specs.Shelves.{ShelfMeaning, IsLater}
-use Rattle.plan_base.specs.declared.limits.Caps.{Caps}
+use Rattle.plan_base.specs.{ShelfMeaning, IsLater, Caps}
 use Rattle.mode_network.specs.NetworkLists.{NetworkLists}
-use Rattle.hierarchy.specs.Lists.{HierarchyLists}
-use Rattle.hierarchy_commands.specs.Working.{IsFoundSound, IsNamedOutcome}
-use Rattle.run_steps.specs.declared.outcome.Outcome.{Outcome}
-use Rattle.run_steps.specs.Working.{HasRegion, IsRegionOutcome}
+use Rattle.hierarchy.specs.{HierarchyLists}
+use Rattle.hierarchy_commands.specs.{IsFoundSound, IsNamedOutcome}
+use Rattle.run_steps.specs.{Outcome, HasRegion, IsRegionOutcome}
 
 -- the region was read, and then the hierarchy, where its file is named
 pub record HasBoth (caps : Caps) (old new : ShelfMeaning) (region : List ℕ) (named : Option (List ℕ)) (n : NetworkLists) (h : Option HierarchyLists) : Type 0 where

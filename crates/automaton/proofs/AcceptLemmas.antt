@@ -1,13 +1,8 @@
 -- Each position automaton of an expression accepts the words that the expression denotes, whatever the order of its moves.
-use Rattle.std.proofs.Common.{ℕ, ◌<◌, ◌≤◌, IsTrue, List, [], ◌∷◌, sym, subst, arith}
-use Rattle.search_laws.specs.Collapse.{collapse}
-use Rattle.search_laws.specs.LabelLaws.{LabelsMeaning, IsLawfulLabels, HasMove, Reads, Accepts}
-use Rattle.automaton.specs.Written.{written, size}
-use Rattle.automaton.specs.Languages.{PositionsAccept, CollapsedPositionsAccept}
-use Rattle.automaton.proofs.WrittenLemmas.{denoted_of_written, written_of_denoted, size_written, letters_below}
-use Rattle.automaton.proofs.PositionLemmas.{automaton_of, is_position_automaton, accepts_written, is_lawful}
-use Rattle.automaton.proofs.CollapsedLemmas.{accepts_collapsed}
-use Rattle.automaton.proofs.SameLemmas.{AnswerAlike, positions_alike}
+use Rattle.plan_base.proofs.Common.{ℕ, ◌<◌, ◌≤◌, IsTrue, List, [], ◌∷◌, sym, subst, arith}
+use Rattle.search_laws.specs.{collapse, LabelsMeaning, IsLawfulLabels, HasMove, Reads, Accepts}
+use Rattle.automaton.specs.{written, size, PositionsAccept, CollapsedPositionsAccept}
+use Rattle.automaton.proofs.{WrittenLemmas.denoted_of_written, WrittenLemmas.written_of_denoted, WrittenLemmas.size_written, WrittenLemmas.letters_below, PositionLemmas.automaton_of, PositionLemmas.is_position_automaton, PositionLemmas.accepts_written, PositionLemmas.is_lawful, CollapsedLemmas.accepts_collapsed, SameLemmas.AnswerAlike, SameLemmas.positions_alike}
 
 -- automata that answer alike accept the same words
 module _ (l m : LabelsMeaning) (lawful : IsLawfulLabels l) (alike : AnswerAlike l m) where

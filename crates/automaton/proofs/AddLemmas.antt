@@ -1,9 +1,6 @@
 -- What building adds, from what building the parts adds.
-use Rattle.std.proofs.Common.{◌≡◌, ℕ, ◌+◌, ◌-◌, Bool, true, false, ◌&&◌, ◌||◌, ◌==◌, List, [], ◌∷◌, ◌++◌, reverse, refl, sym, ap, ◌∙◌, subst, append_assoc, append-nil, arith}
-use Rattle.std.proofs.lemmas.List.{reverse-append}
-use Rattle.automaton.specs.Written.{Written, nothing, nowhere, letter, sequence, choice, optional, plus, size, nullable, first}
-use Rattle.automaton.specs.inside.Rows.{PositionRow, entry, position_rows}
-use Rattle.automaton.specs.inside.Builds.{Built, grown, Adds}
+use Rattle.plan_base.proofs.Common.{◌≡◌, ℕ, ◌+◌, ◌-◌, Bool, true, false, ◌&&◌, ◌||◌, ◌==◌, List, [], ◌∷◌, ◌++◌, reverse, refl, sym, ap, ◌∙◌, subst, append_assoc, append-nil, arith, reverse-append}
+use Rattle.automaton.specs.{Written.Written, nothing, nowhere, letter, sequence, choice, optional, plus, size, nullable, first, inside.PositionRow, inside.entry, inside.position_rows, inside.Built, inside.grown, inside.Adds}
 
 grown-twice : (dry : Bool) (list more again : List PositionRow) → grown dry (grown dry list more) again ≡ grown dry list (more ++ again)
 grown-twice true list more again = refl

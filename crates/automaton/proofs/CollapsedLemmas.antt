@@ -1,10 +1,7 @@
 -- The collapsed automaton reads a word as the inner one reads its collapse.
-use Rattle.std.proofs.Common.{◌≡◌, ◌≢◌, ℕ, ◌+◌, ◌-◌, ◌*◌, ◌/◌, ◌%◌, ◌<◌, ◌≤◌, Bool, true, false, ◌&&◌, ◌==◌, nat_lt, ◌⊎◌, List, [], ◌∷◌, IsTrue, if◌then◌else◌, refl, sym, ap, ◌∙◌, subst, inl, inr, arith}
-use Rattle.std.proofs.lemmas.Bool.Decides.{nat_tests}
-use Rattle.search_laws.specs.LabelLaws.{LabelsMeaning, IsLawfulLabels, HasMove, Reads, Accepts}
-use Rattle.search_laws.specs.Collapse.{collapse}
-use Rattle.automaton.specs.Collapsed.{collapsed, AcceptsCollapsed}
-use Rattle.automaton.specs.CollapsedLaws.{code, code_road, code_transit, code_small, Stays, Goes, step_out, step_in}
+use Rattle.plan_base.proofs.Common.{◌≡◌, ◌≢◌, ℕ, ◌+◌, ◌-◌, ◌*◌, ◌/◌, ◌%◌, ◌<◌, ◌≤◌, Bool, true, false, ◌&&◌, ◌==◌, nat_lt, ◌⊎◌, List, [], ◌∷◌, IsTrue, if◌then◌else◌, refl, sym, ap, ◌∙◌, subst, inl, inr, arith, nat_tests}
+use Rattle.search_laws.specs.{LabelsMeaning, IsLawfulLabels, HasMove, Reads, Accepts, collapse}
+use Rattle.automaton.specs.{collapsed, AcceptsCollapsed, code, code_road, code_transit, code_small, Stays, Goes, step_out, step_in}
 use Rattle.automaton.proofs.LanguageLemmas.{and_in, and_out}
 
 -- the road letter that was read last is k - 1, and c is read once more

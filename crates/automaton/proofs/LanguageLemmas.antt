@@ -1,9 +1,7 @@
 -- A word is read from position to position exactly where the expression that is written out denotes it.
-use Rattle.std.proofs.Common.{◌≡◌, ℕ, zero, suc, ◌+◌, ◌<◌, Bool, true, false, ◌&&◌, ◌||◌, ◌==◌, ◌⊎◌, ◌↔◌, List, [], ◌∷◌, ◌++◌, length, IsTrue, IsBitSet, refl, sym, ap, ◌∙◌, subst, inl, inr, append_assoc, append-nil, length-append, arith}
-use Rattle.std.proofs.lemmas.Bool.Decides.{nat_tests}
-use Rattle.mode_expression.specs.Form.{IsJoined, IsPower}
-use Rattle.automaton.specs.Written.{Written, nothing, nowhere, letter, sequence, choice, optional, plus, size, nullable, first, IsWritten}
-use Rattle.automaton.specs.inside.Rows.{entry}
+use Rattle.plan_base.proofs.Common.{◌≡◌, ℕ, zero, suc, ◌+◌, ◌<◌, Bool, true, false, ◌&&◌, ◌||◌, ◌==◌, ◌⊎◌, ◌↔◌, List, [], ◌∷◌, ◌++◌, length, IsTrue, IsBitSet, refl, sym, ap, ◌∙◌, subst, inl, inr, append_assoc, append-nil, length-append, arith, nat_tests}
+use Rattle.mode_expression.specs.{IsJoined, IsPower}
+use Rattle.automaton.specs.{Written.Written, nothing, nowhere, letter, sequence, choice, optional, plus, size, nullable, first, IsWritten, inside.entry}
 
 pub or_in : (a b : Bool) → IsTrue a ⊎ IsTrue b → IsTrue (a || b)
 or_in true b either = refl

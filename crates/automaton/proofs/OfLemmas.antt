@@ -1,15 +1,9 @@
 -- The states that are built are those of the expression's position automaton.
-use Rattle.std.proofs.Common.{◌≡◌, ℕ, ◌^◌, ◌≤◌, Bool, false, ◌↔◌, List, [], ◌++◌, length, reverse, min, sym, ap, ◌∙◌, subst, arith}
-use Rattle.std.proofs.lemmas.List.{reverse-reverse}
-use Rattle.search_laws.specs.LabelLaws.{Accepts, IsLawfulLabels}
-use Rattle.mode_expression.specs.Form.{Form, IsUsable, IsWordOf, places}
-use Rattle.automaton.specs.Written.{written, size}
-use Rattle.automaton.specs.inside.Rows.{entry, position_rows}
-use Rattle.automaton.specs.inside.Builds.{Built, ArePositionsAdded, Adds, grown}
-use Rattle.automaton.specs.States.{StateView, meaning_of_states, states_for, IsPositionAutomaton}
-use Rattle.automaton.proofs.RowLemmas.{length-rows}
-use Rattle.automaton.proofs.WrittenLemmas.{denoted_of_written, written_of_denoted, size_written, letters_below}
-use Rattle.automaton.proofs.PositionLemmas.{end, automaton_of, is_position_automaton, accepts_written, state_total, moves_few, is_lawful}
+use Rattle.plan_base.proofs.Common.{◌≡◌, ℕ, ◌^◌, ◌≤◌, Bool, false, ◌↔◌, List, [], ◌++◌, length, reverse, min, sym, ap, ◌∙◌, subst, arith, reverse-reverse}
+use Rattle.search_laws.specs.{Accepts, IsLawfulLabels}
+use Rattle.mode_expression.specs.{Form.Form, IsUsable, IsWordOf, places}
+use Rattle.automaton.specs.{written, size, StateView, meaning_of_states, states_for, IsPositionAutomaton, inside.entry, inside.position_rows, inside.Built, inside.ArePositionsAdded, inside.Adds, inside.grown}
+use Rattle.automaton.proofs.{RowLemmas.length-rows, WrittenLemmas.denoted_of_written, WrittenLemmas.written_of_denoted, WrittenLemmas.size_written, WrittenLemmas.letters_below, PositionLemmas.end, PositionLemmas.automaton_of, PositionLemmas.is_position_automaton, PositionLemmas.accepts_written, PositionLemmas.state_total, PositionLemmas.moves_few, PositionLemmas.is_lawful}
 
 module _ (f : Form) (usable : IsUsable f) (old new : Built) (first : ℕ → Bool)
     (fresh : old ≡ record { at = min (places f) (2 ^ 32); dry = false; rows = [] }) (adds : Adds old new (written f) end first) where

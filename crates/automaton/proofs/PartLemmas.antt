@@ -1,10 +1,9 @@
 -- The parts of an expression in memory, written out.
-use Rattle.std.proofs.Common.{◌≡◌, ℕ, suc, ◌-◌, ◌<◌, ◌≤◌, List, [], ◌∷◌, length, get_or, drop, map, Vec, Global, sym, ap, ◌∙◌, drop-cons, arith}
+use Rattle.plan_base.proofs.Common.{◌≡◌, ℕ, suc, ◌-◌, ◌<◌, ◌≤◌, List, [], ◌∷◌, length, get_or, drop, map, Vec, sym, ap, ◌∙◌, drop-cons, arith, Global}
 use Rattle.std.proofs.Math.Seq.{drop-length}
-use Rattle.mode_expression.specs.declared.expr.Expr.{Expr, Seq, Alt}
-use Rattle.mode_expression.specs.Form.{form_of, in_turn, one_of}
+use Rattle.mode_expression.specs.{Expr, form_of, in_turn, one_of, declared.expr.Expr.Seq, declared.expr.Expr.Alt}
 use Rattle.mode_expression.proofs.FormLemmas.{form_seq, form_alt}
-use Rattle.automaton.specs.Written.{written}
+use Rattle.automaton.specs.{written}
 
 pub written_seq : (expr : Expr) (parts : Vec Expr Global) (items : List Expr) → expr ≡ Seq parts → items ≡ parts.items
     → written (in_turn (map form_of items)) ≡ written (form_of expr)

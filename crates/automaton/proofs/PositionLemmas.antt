@@ -1,18 +1,10 @@
 -- What the automaton of rows answers, and which words it accepts.
-use Rattle.std.proofs.Common.{◌≡◌, ℕ, zero, suc, ◌+◌, ◌-◌, ◌*◌, ◌^◌, ◌<◌, ◌≤◌, Bool, true, false, ◌&&◌, ◌||◌, ◌==◌, nat_le, nat_lt, ◌⊎◌, ◌↔◌, List, [], ◌∷◌, ◌++◌, length, get_or, IsTrue, IsBitSet, if◌then◌else◌, refl, sym, ap, ◌∙◌, subst, inl, inr, append-nil, length-append, arith}
-use Rattle.std.proofs.lemmas.Bool.Decides.{nat_tests}
-use Rattle.std.proofs.lemmas.List.{get_or-map, length-map, get_or_append_left, get_or_past}
-use Rattle.std.proofs.lemmas.Nat.Bits.{and_pow, bit_at-zero}
-use Rattle.std.proofs.Math.Seq.{get_or-append_seam}
+use Rattle.plan_base.proofs.Common.{◌≡◌, ℕ, zero, suc, ◌+◌, ◌-◌, ◌*◌, ◌^◌, ◌<◌, ◌≤◌, Bool, true, false, ◌&&◌, ◌||◌, ◌==◌, nat_le, nat_lt, ◌⊎◌, ◌↔◌, List, [], ◌∷◌, ◌++◌, length, get_or, IsTrue, IsBitSet, if◌then◌else◌, refl, sym, ap, ◌∙◌, subst, inl, inr, append-nil, length-append, arith, nat_tests, get_or-map, length-map, get_or_append_left, get_or_past, bit_at-zero, get_or-append_seam}
+use Rattle.std.proofs.lemmas.Nat.Bits.{and_pow}
 use Rattle.std.proofs.Math.ListN.{get_or-map as get_or-map_default}
-use Rattle.search_laws.specs.Letters.{IsLetterSet}
-use Rattle.search_laws.specs.declared.labels.Move.{Move}
-use Rattle.search_laws.specs.LabelLaws.{LabelsMeaning, HasMove, Reads, Accepts, IsLawfulLabels}
-use Rattle.automaton.specs.Written.{Written, nothing, nowhere, letter, sequence, choice, optional, plus, size, nullable, first, last, follow, IsWritten}
-use Rattle.automaton.specs.inside.Rows.{PositionRow, entry, position_rows, position_row, no_row}
-use Rattle.automaton.specs.States.{no_move, no_view, view_at, meaning_of_states, moves_upto, state_for, states_for, next_position, may_end, letters_at, IsPositionAutomaton}
-use Rattle.automaton.proofs.LanguageLemmas.{or_out, and_out, first_above, From, Agrees, read_is_written}
-use Rattle.automaton.proofs.RowLemmas.{length-rows, letters-rows, agrees_of_rows, next_is}
+use Rattle.search_laws.specs.{IsLetterSet, Move, LabelsMeaning, HasMove, Reads, Accepts, IsLawfulLabels}
+use Rattle.automaton.specs.{Written.Written, nothing, nowhere, letter, sequence, choice, optional, plus, size, nullable, first, last, follow, IsWritten, no_move, no_view, view_at, meaning_of_states, moves_upto, state_for, states_for, next_position, may_end, letters_at, IsPositionAutomaton, inside.PositionRow, inside.entry, inside.position_rows, inside.position_row, inside.no_row}
+use Rattle.automaton.proofs.{LanguageLemmas.or_out, LanguageLemmas.and_out, LanguageLemmas.first_above, LanguageLemmas.From, LanguageLemmas.Agrees, LanguageLemmas.read_is_written, RowLemmas.length-rows, RowLemmas.letters-rows, RowLemmas.agrees_of_rows, RowLemmas.next_is}
 
 no_bits : (c : ℕ) → IsBitSet 0 c → ⊥
 no_bits c set = set (and_pow 0 c ∙ ap (λ b. b * 2 ^ c) (bit_at-zero c) ∙ omega arith)

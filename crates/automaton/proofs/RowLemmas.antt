@@ -1,10 +1,6 @@
 -- The rows of positions: how long they are, and what they say of single positions.
-use Rattle.std.proofs.Common.{◌≡◌, ℕ, ◌+◌, ◌-◌, ◌<◌, ◌≤◌, Bool, true, false, ◌&&◌, ◌||◌, ◌==◌, nat_le, ◌⊎◌, List, ◌∷◌, ◌++◌, length, get_or, map, refl, sym, ap, ◌∙◌, inl, inr, append_assoc, length-append, arith}
-use Rattle.std.proofs.lemmas.Bool.Decides.{nat_tests}
-use Rattle.std.proofs.lemmas.List.{map-append}
-use Rattle.std.proofs.Math.Seq.{get_or-append_seam}
-use Rattle.automaton.specs.Written.{Written, nothing, nowhere, letter, sequence, choice, optional, plus, size, nullable, first, last, follow, letters_written}
-use Rattle.automaton.specs.inside.Rows.{PositionRow, entry, position_rows, position_row, no_row}
+use Rattle.plan_base.proofs.Common.{◌≡◌, ℕ, ◌+◌, ◌-◌, ◌<◌, ◌≤◌, Bool, true, false, ◌&&◌, ◌||◌, ◌==◌, nat_le, ◌⊎◌, List, ◌∷◌, ◌++◌, length, get_or, map, refl, sym, ap, ◌∙◌, inl, inr, append_assoc, length-append, arith, nat_tests, map-append, get_or-append_seam}
+use Rattle.automaton.specs.{Written.Written, nothing, nowhere, letter, sequence, choice, optional, plus, size, nullable, first, last, follow, letters_written, inside.PositionRow, inside.entry, inside.position_rows, inside.position_row, inside.no_row}
 use Rattle.automaton.proofs.LanguageLemmas.{Agrees}
 
 pub length-rows : (e : Written) (o : ℕ) (K : ℕ → Bool) → length (position_rows e o K) ≡ size e

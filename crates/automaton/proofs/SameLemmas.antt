@@ -1,11 +1,8 @@
 -- Two automata that answer alike, but for the order of their moves, are alike when collapsed. So it does not matter which position
 -- automaton of an expression is taken.
-use Rattle.std.proofs.Common.{◌≡◌, ℕ, ◌*◌, ◌/◌, ◌%◌, ◌<◌, ◌&&◌, ◌==◌, ◌↔◌, ◌⊎◌, inl, inr, sym, ap, ◌∙◌, subst, arith}
-use Rattle.search_laws.specs.LabelLaws.{LabelsMeaning, IsLawfulLabels, HasMove}
-use Rattle.automaton.specs.Written.{Written}
-use Rattle.automaton.specs.States.{IsPositionAutomaton}
-use Rattle.automaton.specs.Collapsed.{collapsed}
-use Rattle.automaton.specs.CollapsedLaws.{Stays, Goes, step_out, step_in}
+use Rattle.plan_base.proofs.Common.{◌≡◌, ℕ, ◌*◌, ◌/◌, ◌%◌, ◌<◌, ◌&&◌, ◌==◌, ◌↔◌, ◌⊎◌, inl, inr, sym, ap, ◌∙◌, subst, arith}
+use Rattle.search_laws.specs.{LabelsMeaning, IsLawfulLabels, HasMove}
+use Rattle.automaton.specs.{Written.Written, IsPositionAutomaton, collapsed, Stays, Goes, step_out, step_in}
 
 pub record AnswerAlike (l m : LabelsMeaning) : Type 0 where
   pub states : l.states ≡ m.states

@@ -1,14 +1,7 @@
 -- How states are made of rows.
-use Rattle.std.proofs.Common.{◌≡◌, ℕ, suc, ◌+◌, ◌-◌, ◌<◌, ◌≤◌, Bool, true, false, List, [], ◌∷◌, ◌++◌, length, get_or, map, take, reverse, if◌then◌else◌, refl, sym, ap, ◌∙◌, append-nil, add-one, arith}
-use Rattle.std.proofs.lemmas.List.{map-append, get_or-map, take_all}
-use Rattle.std.proofs.lemmas.Grind.{reverse_onto}
-use Rattle.search_laws.specs.declared.labels.Move.{Move}
-use Rattle.automaton.specs.declared.builder.Draft.{Draft}
-use Rattle.automaton.specs.declared.state.State.{State}
-use Rattle.automaton.specs.inside.Builds.{draft_row}
-use Rattle.automaton.specs.inside.Rows.{PositionRow, position_row, no_row}
-use Rattle.automaton.specs.inside.Sets.{has}
-use Rattle.automaton.specs.States.{StateView, view_of, view_at, no_view, moves_upto, state_for, states_for}
+use Rattle.plan_base.proofs.Common.{◌≡◌, ℕ, suc, ◌+◌, ◌-◌, ◌<◌, ◌≤◌, Bool, true, false, List, [], ◌∷◌, ◌++◌, length, get_or, map, take, reverse, if◌then◌else◌, refl, sym, ap, ◌∙◌, append-nil, add-one, arith, map-append, get_or-map, take_all, reverse_onto}
+use Rattle.search_laws.specs.{Move}
+use Rattle.automaton.specs.{declared.builder.Draft.Draft, State, StateView, view_of, view_at, no_view, moves_upto, state_for, states_for, inside.draft_row, inside.PositionRow, inside.position_row, inside.no_row, inside.has}
 
 pub map-reverse : {X Y : Type 0} → (f : X → Y) (xs : List X) → map f (reverse xs) ≡ reverse (map f xs)
 map-reverse f [] = refl

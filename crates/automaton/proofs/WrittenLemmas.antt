@@ -1,10 +1,8 @@
 -- What is written out denotes the same words, and has the places that were counted.
-use Rattle.std.proofs.Common.{◌≡◌, ℕ, zero, suc, ◌+◌, ◌-◌, ◌*◌, ◌<◌, ◌≤◌, List, [], ◌∷◌, ◌++◌, Option, Some, None, IfSome, refl, sym, ap, ◌∙◌, subst, inl, inr, append_assoc, get_or, lit<, arith}
-use Rattle.search_laws.specs.Letters.{IsLetterSet}
-use Rattle.mode_expression.specs.Form.{Form, letters, empty, both, never, either, repeated, IsJoined, IsPower, IsWordOf, IsWellFormed, IsCount, places}
-use Rattle.mode_expression.specs.Form.{copies as copied}
-use Rattle.automaton.specs.Written.{Written, copies_in_turn, options, repeat, written, size, letters_written, IsWritten}
-use Rattle.automaton.specs.States.{letters_at}
+use Rattle.plan_base.proofs.Common.{◌≡◌, ℕ, zero, suc, ◌+◌, ◌-◌, ◌*◌, ◌<◌, ◌≤◌, List, [], ◌∷◌, ◌++◌, Option, Some, None, IfSome, refl, sym, ap, ◌∙◌, subst, inl, inr, append_assoc, get_or, lit<, arith}
+use Rattle.search_laws.specs.{IsLetterSet}
+use Rattle.mode_expression.specs.{Form.Form, letters, empty, both, never, either, repeated, IsJoined, IsPower, IsWordOf, IsWellFormed, IsCount, places, copies as copied}
+use Rattle.automaton.specs.{Written.Written, copies_in_turn, options, repeat, written, size, letters_written, IsWritten, letters_at}
 
 joined_map : (P Q R S : List ℕ → Type 0) → ((w : List ℕ) → P w → R w) → ((w : List ℕ) → Q w → S w) → (word : List ℕ) → IsJoined P Q word → IsJoined R S word
 joined_map P Q R S f g word (x, y, split, in_P, in_Q) = (x, y, split, f x in_P, g y in_Q)

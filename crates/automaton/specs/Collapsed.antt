@@ -1,9 +1,6 @@
 -- An automaton that reads adjacent equal road letters as one.
 use Rattle.std.specs.Prelude.{ℕ, ◌+◌, ◌-◌, ◌*◌, ◌/◌, ◌%◌, ◌^◌, ◌<◌, ◌≤◌, ◌&&◌, ◌==◌, ◌↔◌, List, bit_and, if◌then◌else◌}
-use Rattle.search_laws.specs.Letters.{transit_letters}
-use Rattle.search_laws.specs.declared.labels.Move.{Move}
-use Rattle.search_laws.specs.LabelLaws.{LabelsMeaning, Accepts}
-use Rattle.search_laws.specs.Collapse.{collapse}
+use Rattle.search_laws.specs.{transit_letters, Move, LabelsMeaning, Accepts, collapse}
 
 -- The move of state 4*q + own that an inner move of q gives by the letters of one kind: 0 are the transit letters, and 1, 2 and 3
 -- are foot, bike and car. The road letter that was read last gives none.

@@ -1,13 +1,12 @@
 -- The collapsed automaton keeps the laws of automata, and of road letters. These are proofs, which a ghost field and ghost
 -- members of its type cite; nothing is defined here that a contract means.
-use Rattle.std.proofs.Common.{◌≡◌, ◌≢◌, ℕ, zero, suc, ◌+◌, ◌-◌, ◌*◌, ◌/◌, ◌%◌, ◌^◌, ◌<◌, ◌≤◌, min, Bool, true, false, ◌==◌, nat_lt, ◌⊎◌, bit_and, IsBitSet, if◌then◌else◌, refl, sym, ap, ◌∙◌, subst, inl, inr, lit<, arith}
+use Rattle.std.specs.Prelude.{◌≡◌, ◌≢◌, ℕ, zero, suc, ◌+◌, ◌-◌, ◌*◌, ◌/◌, ◌%◌, ◌^◌, ◌<◌, ◌≤◌, min, Bool, true, false, ◌==◌, nat_lt, ◌⊎◌, bit_and, IsBitSet, if◌then◌else◌, refl}
+use Rattle.std.proofs.Common.{sym, ap, ◌∙◌, subst, inl, inr, lit<, arith}
 use Rattle.std.specs.Int.{bit_at}
 use Rattle.std.proofs.lemmas.Bool.Decides.{nat_tests}
 use Rattle.std.proofs.lemmas.Nat.{pow_below, pow_pos, and_le_l}
 use Rattle.std.proofs.lemmas.Nat.Bits.{bit_at_and, and_pow, bit_at-lt, bit_at-zero, bit_at-pow_same, bit_at-pow_other, bit_at_mask_inside, bit_at_mask_below, bit_at_above}
-use Rattle.search_laws.specs.Letters.{IsLetter, IsLetterSet, letter_count, transit_letters}
-use Rattle.search_laws.specs.declared.labels.Move.{Move}
-use Rattle.search_laws.specs.LabelLaws.{LabelsMeaning, IsLawfulLabels, IsMove, HasMove, IsRoadLabels}
+use Rattle.search_laws.specs.{IsLetter, IsLetterSet, letter_count, transit_letters, Move, LabelsMeaning, IsLawfulLabels, IsMove, HasMove, IsRoadLabels}
 use Rattle.automaton.specs.Collapsed.{move_by, stay, other_move, collapsed, FitsCollapsed}
 
 -- ---- bits

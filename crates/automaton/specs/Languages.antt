@@ -1,11 +1,8 @@
 -- Which words automata accept, by what expressions denote.
 use Rattle.std.specs.Prelude.{ℕ, ◌↔◌, List}
-use Rattle.search_laws.specs.Collapse.{collapse}
-use Rattle.search_laws.specs.LabelLaws.{LabelsMeaning, IsLawfulLabels, Accepts}
-use Rattle.mode_expression.specs.Form.{Form, IsUsable, IsWordOf}
-use Rattle.automaton.specs.Written.{written}
-use Rattle.automaton.specs.States.{IsPositionAutomaton}
-use Rattle.automaton.specs.Collapsed.{collapsed}
+use Rattle.search_laws.specs.{collapse, LabelsMeaning, IsLawfulLabels, Accepts}
+use Rattle.mode_expression.specs.{Form.Form, IsUsable, IsWordOf}
+use Rattle.automaton.specs.{Written.written, States.IsPositionAutomaton, Collapsed.collapsed}
 
 -- a position automaton of an expression accepts exactly the words that the expression denotes
 abbrev pub PositionsAccept : Type 0

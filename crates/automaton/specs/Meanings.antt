@@ -1,7 +1,7 @@
 -- What the automata of this crate answer.
 use Rattle.std.specs.Prelude.{map}
-use Rattle.search_laws.specs.LabelLaws.{LabelsMeaning}
-use Rattle.automaton.specs.declared.positions.Positions.{Positions}
+use Rattle.search_laws.specs.{LabelsMeaning}
+pub use Rattle.automaton.specs.declared.positions.Positions.{Positions}
 use Rattle.automaton.specs.States.{meaning_of_states, view_of}
 
 abbrev pub position_meaning : Positions → LabelsMeaning

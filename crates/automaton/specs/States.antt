@@ -1,10 +1,8 @@
 -- The states of a position automaton, and what an automaton with these states answers.
 use Rattle.std.specs.Prelude.{◌≡◌, ℕ, zero, suc, ◌+◌, ◌-◌, ◌<◌, Bool, false, ◌==◌, ◌↔◌, List, [], ◌∷◌, ◌++◌, length, map, slice_index_or, IsTrue, IsBitSet, if◌then◌else◌}
-use Rattle.search_laws.specs.declared.labels.Move.{Move}
-use Rattle.search_laws.specs.LabelLaws.{LabelsMeaning, HasMove}
-use Rattle.automaton.specs.declared.state.State.{State}
-use Rattle.automaton.specs.Written.{Written, size, nullable, first, last, follow, letters_written}
-use Rattle.automaton.specs.inside.Rows.{PositionRow, position_row}
+use Rattle.search_laws.specs.{Move, LabelsMeaning, HasMove}
+pub use Rattle.automaton.specs.declared.state.State.{State}
+use Rattle.automaton.specs.{Written.Written, Written.size, Written.nullable, Written.first, Written.last, Written.follow, Written.letters_written, inside.Rows.PositionRow, inside.Rows.position_row}
 
 -- a state as contracts see it
 pub record StateView : Type 0 where

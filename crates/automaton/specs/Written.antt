@@ -1,6 +1,6 @@
 -- An expression written out, and its positions: the places of letters, numbered from the left.
 use Rattle.std.specs.Prelude.{◌≡◌, ℕ, zero, suc, ◌+◌, ◌-◌, Bool, true, false, ◌&&◌, ◌||◌, ◌==◌, ◌⊎◌, List, [], ◌∷◌, ◌++◌, Option, Some, None, IsBitSet}
-use Rattle.mode_expression.specs.Form.{Form, letters, empty, both, never, either, repeated, IsJoined, IsPower}
+use Rattle.mode_expression.specs.{Form.Form, letters, empty, both, never, either, repeated, IsJoined, IsPower}
 
 -- `nothing` is the empty word, `nowhere` no word, `optional` a part or nothing, and `plus` a part one or more times.
 pub data Written : Type 0 where

@@ -1,4 +1,4 @@
-ghost use Rattle.std.specs.Prelude.{◌≡◌, ℕ, map, reverse, IfOk, OnOk, false, [], ◌∷◌, ◌-◌};
+ghost use Rattle.std.specs.Prelude.{◌≡◌, map, reverse, IfOk, OnOk, false, [], ◌∷◌, ◌-◌};
 ghost use Rattle.mode_expression.specs.Form.{form_of, in_turn, one_of};
 ghost use Rattle.automaton.specs.Written.{written, letter, plus, copies_in_turn, options, repeat};
 

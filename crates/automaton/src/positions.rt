@@ -1,4 +1,4 @@
-ghost use Rattle.std.specs.Prelude.{◌≡◌, ℕ, ◌≤◌, ◌↔◌, List, map, IfOk};
+ghost use Rattle.std.specs.Prelude.{ℕ, ◌≤◌, ◌↔◌, List, map, IfOk};
 ghost use Rattle.mode_expression.specs.Form.{form_of, IsUsable, Denotes};
 ghost use Rattle.search_laws.specs.LabelLaws.{IsLawfulLabels, Accepts};
 ghost use Rattle.automaton.specs.States.{meaning_of_states, view_of, IsPositionAutomaton};

@@ -1,19 +1,11 @@
 -- What is spelled is read: the lines of a certificate may stand where they do, and make the certificate again.
-use Rattle.std.proofs.Common.{◌≡◌, ℕ, suc, List, [], ◌∷◌, ◌++◌, length, map, refl, ap, sym, ◌∙◌, ◌-◌, true, cond, arith, append_assoc}
-use Rattle.std.specs.Prelude.{Option, Some, None, fold, nat_lt}
-use Rattle.std.proofs.lemmas.Bool.Decides.{nat_tests}
-use Rattle.std.proofs.lemmas.List.{append-nil}
-use Rattle.plain_texts.specs.Course.{run_on}
-use Rattle.mode_network.specs.declared.steps.Step.{Step}
-use Rattle.mode_network.specs.Journeys.{Route}
-use Rattle.product_search.specs.declared.label.Label.{Label}
-use Rattle.certificate.specs.declared.lines.Line.{Line}
+use Rattle.plan_base.proofs.Common.{◌≡◌, ℕ, suc, List, [], ◌∷◌, ◌++◌, length, map, refl, ap, sym, ◌∙◌, ◌-◌, true, cond, arith, append_assoc, Option, Some, None, fold, nat_lt, nat_tests, append-nil}
+use Rattle.plain_texts.specs.{run_on}
+use Rattle.mode_network.specs.{Step, Route}
+use Rattle.product_search.specs.{Label}
+use Rattle.certificate.specs.{Line, Claim, due_behind, cert_lines, label_lines, result_lines, nothing, put}
 use Rattle.certificate.specs.declared.lines.Line.TheVariants as line
 use Rattle.certificate.specs.declared.due.Due.TheVariants as due
-use Rattle.certificate.specs.Certificates.{Claim}
-use Rattle.certificate.specs.Sections.{due_behind}
-use Rattle.certificate.specs.Texts.{cert_lines, label_lines, result_lines}
-use Rattle.certificate.specs.Reading.{nothing, put}
 
 -- The lines run to the end.
 label_stands : (more : ℕ) (label : Label) → due_behind (due.Labels (suc more)) (line.Label label) ≡ Some (due.Labels more)

@@ -1,20 +1,11 @@
 -- What is read is spelled so: lines that run from the head to the end are those of a certificate.
-use Rattle.std.proofs.Common.{◌≡◌, ℕ, suc, List, [], ◌∷◌, ◌++◌, length, map, refl, ap, sym, ◌∙◌, ◌-◌, Bool, true, false, cond, arith}
-use Rattle.std.specs.Prelude.{Option, Some, None, nat_lt, nat_eq}
-use Rattle.std.proofs.lemmas.Bool.{false≢true}
-use Rattle.std.proofs.lemmas.Bool.Decides.{nat_tests}
-use Rattle.std.proofs.lemmas.Option.{none-some, same_Some}
-use Rattle.plain_texts.specs.Course.{run_on}
-use Rattle.mode_network.specs.declared.steps.Step.{Step}
-use Rattle.mode_network.specs.Journeys.{Route}
-use Rattle.product_search.specs.declared.label.Label.{Label}
-use Rattle.certificate.specs.declared.lines.Line.{Line}
+use Rattle.plan_base.proofs.Common.{◌≡◌, ℕ, suc, List, [], ◌∷◌, ◌++◌, length, map, refl, ap, sym, ◌∙◌, ◌-◌, Bool, true, false, cond, arith, Option, Some, None, nat_lt, nat_eq, false≢true, nat_tests, none-some, same_Some}
+use Rattle.plain_texts.specs.{run_on}
+use Rattle.mode_network.specs.{Step, Route}
+use Rattle.product_search.specs.{Label}
+use Rattle.certificate.specs.{Line, Due, Claim, due_behind, is_last, cert_lines, label_lines, result_lines}
 use Rattle.certificate.specs.declared.lines.Line.TheVariants as line
-use Rattle.certificate.specs.declared.due.Due.{Due}
 use Rattle.certificate.specs.declared.due.Due.TheVariants as due
-use Rattle.certificate.specs.Certificates.{Claim}
-use Rattle.certificate.specs.Sections.{due_behind, is_last}
-use Rattle.certificate.specs.Texts.{cert_lines, label_lines, result_lines}
 
 -- for every kind of lines and of places
 module _ {L P : Type 0} (after : P → L → Option P) (is_last : P → Bool) where

@@ -1,23 +1,12 @@
 -- The two laws of a line by itself: what is read is spelled so, and what is spelled so is read.
-use Rattle.std.proofs.Common.{◌≡◌, ℕ, List, [], ◌∷◌, ◌++◌, length, take, drop, refl, ap, ap₂, sym, ◌∙◌, subst, ◌<◌, ◌+◌, ◌^◌, Bool, true, false, cond, arith}
-use Rattle.std.specs.Prelude.{Option, Some, None, option_map, codes, decimal, ◌&&◌}
-use Rattle.std.specs.Str.{bytes_eq}
-use Rattle.std.specs.List.{AllByRecursion}
-use Rattle.std.proofs.lemmas.List.{take-append-drop}
-use Rattle.std.proofs.lemmas.Slice.Eq.{bytes_eq-Decides}
-use Rattle.std.proofs.lemmas.Option.{none-some, same_Some, cond_some, option_and_then_some}
-use Rattle.plain_texts.specs.Lines.{IsWord, words_of, spaced}
-use Rattle.plain_texts.specs.Numbers.{number_at}
-use Rattle.plain_texts.proofs.Decimal.{first_digit, number_takes, number_again}
-use Rattle.plain_texts.proofs.Spaced.{spaced-words_of, words_of-spaced, word_by_test, decimal_is_word}
-use Rattle.mode_network.specs.declared.steps.Step.{Step}
-use Rattle.mode_network.specs.declared.steps.Step.TheVariants.{Wait, Road, Link, Stand, Ride}
-use Rattle.search_laws.specs.Times.{time_bound}
-use Rattle.product_search.specs.declared.label.Label.{Label}
-use Rattle.certificate.specs.declared.lines.Line.{Line}
+use Rattle.plan_base.proofs.Common.{◌≡◌, ℕ, List, [], ◌∷◌, ◌++◌, length, take, drop, refl, ap, ap₂, sym, ◌∙◌, subst, ◌<◌, ◌+◌, ◌^◌, Bool, true, false, cond, arith, Option, Some, None, option_map, codes, decimal, ◌&&◌, bytes_eq, AllByRecursion, take-append-drop, bytes_eq-Decides, none-some, same_Some, cond_some, option_and_then_some}
+use Rattle.plain_texts.specs.{IsWord, words_of, spaced, number_at}
+use Rattle.plain_texts.proofs.{Decimal.first_digit, Decimal.number_takes, Decimal.number_again, Spaced.spaced-words_of, Spaced.words_of-spaced, Spaced.word_by_test, Spaced.decimal_is_word}
+use Rattle.mode_network.specs.{Step, Wait, Link, Stand, Ride, declared.steps.Step.TheVariants.Road}
+use Rattle.search_laws.specs.{time_bound}
+use Rattle.product_search.specs.{Label}
+use Rattle.certificate.specs.{Line, FitsLabel, FitsLine, FitsStep, IsTime, graph_name, label_words, spelled, step_words, words, arrive_of_words, bare, behind_query, by_first_word, graph_of_words, head_of_words, line_of_kind, label_of_words, label_or_kind, labels_of_words, line_of, line_of_words, phases_of_word, query_or_words, query_word, ride_of_words, start_of_words, time_of_word, to_of_words, wait_of_words, number_of_word}
 use Rattle.certificate.specs.declared.lines.Line.TheVariants as line
-use Rattle.certificate.specs.Lines.{FitsLabel, FitsLine, FitsStep, IsTime, graph_name, label_words, spelled, step_words, words}
-use Rattle.certificate.specs.Kinds.{arrive_of_words, bare, behind_query, by_first_word, graph_of_words, head_of_words, line_of_kind, label_of_words, label_or_kind, labels_of_words, line_of, line_of_words, phases_of_word, query_or_words, query_word, ride_of_words, start_of_words, time_of_word, to_of_words, wait_of_words, number_of_word}
 
 pub mapped : {A B : Type 0} (f : A → B) (o : Option A) (y : B) → option_map f o ≡ Some y → (x : A) × (o ≡ Some x) × (f x ≡ y)
 mapped f None y e = absurd (none-some y e)

@@ -1,14 +1,8 @@
 -- The laws of what the lines of a text make, for every kind of certificates.
-use Rattle.std.proofs.Common.{◌≡◌, ℕ, List, map, refl, ap, subst, ◌∙◌, Bool, true, false, Option, inl, inr}
-use Rattle.std.specs.Prelude.{Some, Result, Ok, Err, fold, IfOk, IfErr}
-use Rattle.std.specs.List.{AllByRecursion}
-use Rattle.plain_texts.specs.Lines.{IsLine, pieces, lines_text}
-use Rattle.plain_texts.specs.Course.{Course, whole, bad, trailing, lines_from, run_on, IsWhole}
-use Rattle.plain_texts.proofs.Pieces.{pieces_lines}
-use Rattle.plain_texts.proofs.Course.{ReadsLines, has_pieces, course_takes, course_bad, course_bad_is, course_trailing, course_trailing_is, course_again}
-use Rattle.certificate.specs.declared.verdict.CertFault.{CertFault}
-use Rattle.certificate.specs.declared.verdict.CertFault.TheVariants.{BadLine, OutOfMemory}
-use Rattle.certificate.specs.Making.{made_by, Gives, IsCause}
+use Rattle.plan_base.proofs.Common.{◌≡◌, ℕ, List, map, refl, ap, subst, ◌∙◌, Bool, true, false, Option, inl, inr, Some, Result, Ok, Err, fold, IfOk, IfErr, AllByRecursion}
+use Rattle.plain_texts.specs.{IsLine, pieces, lines_text, whole, bad, trailing, lines_from, run_on, IsWhole, Course.Course}
+use Rattle.plain_texts.proofs.{Pieces.pieces_lines, Course.ReadsLines, Course.has_pieces, Course.course_takes, Course.course_bad, Course.course_bad_is, Course.course_trailing, Course.course_trailing_is, Course.course_again}
+use Rattle.certificate.specs.{CertFault, BadLine, OutOfMemory, made_by, Gives, IsCause}
 
 pub same_Ok : {A E : Type 0} (x y : A) → ◌≡◌ {A = Result A E} (Ok x) (Ok y) → x ≡ y
 same_Ok x y e = cc

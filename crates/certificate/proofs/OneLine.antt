@@ -1,12 +1,8 @@
 -- One line more of a text, for the loop that reads it.
-use Rattle.std.proofs.Common.{◌≡◌, ℕ, List, length, refl, ap, ◌∙◌, ◌<◌, ◌+◌, Bool, Option, true, false, arith}
-use Rattle.std.proofs.lemmas.Bool.Decides.{nat_tests}
-use Rattle.std.specs.Prelude.{Some, None, Ok, Err, ◌==◌}
-use Rattle.plain_texts.specs.Course.{Course, whole, bad, trailing, onto, lines_from}
-use Rattle.plain_texts.specs.Lines.{pieces, next_line_of}
+use Rattle.plan_base.proofs.Common.{◌≡◌, ℕ, List, length, refl, ap, ◌∙◌, ◌<◌, ◌+◌, Bool, Option, true, false, arith, nat_tests, Some, None, Ok, Err, ◌==◌}
+use Rattle.plain_texts.specs.{Course.Course, whole, bad, trailing, onto, lines_from, pieces, next_line_of}
 use Rattle.plain_texts.proofs.Course.{course_no_line, course_bad_line, course_good_line, course_last_line, course_more_lines}
-use Rattle.certificate.specs.declared.verdict.CertFault.TheVariants.{BadLine}
-use Rattle.certificate.specs.Making.{made_by}
+use Rattle.certificate.specs.{BadLine, made_by}
 
 pub is_some : (text : List ℕ) → (length text == 0) ≡ false → 0 < length text
 is_some text e = grind (arith, nat_tests)

@@ -1,34 +1,14 @@
 -- What the bytes of a certificate spell: the laws of the whole.
-use Rattle.std.proofs.Common.{◌≡◌, ℕ, List, [], ◌∷◌, ◌++◌, map, refl, ap, sym, ◌∙◌, subst, Bool, true, false, cond}
-use Rattle.std.specs.Prelude.{Option, Some, None, Result, Ok, Err, All, fold, codes, IfErr}
-use Rattle.std.specs.List.{AllByRecursion, slice_split, onto_first}
-use Rattle.std.proofs.lemmas.List.Elements.{All-nil, All-cons, All-append, All-drop}
-use Rattle.plain_texts.specs.Lines.{IsLine, is_feed, pieces, spaced}
-use Rattle.plain_texts.specs.Course.{lines_from}
-use Rattle.plain_texts.proofs.Pieces.{text_of_lines}
-use Rattle.plain_texts.proofs.Spaced.{spaced_is_line}
-use Rattle.mode_network.specs.declared.steps.Step.{Step}
-use Rattle.mode_network.specs.declared.steps.Step.TheVariants.{Wait, Road, Link, Stand, Ride}
-use Rattle.mode_network.specs.Journeys.{Route}
-use Rattle.journey.specs.Ends.{HasTime}
-use Rattle.certificate.specs.declared.verdict.CertFault.{CertFault}
-use Rattle.certificate.specs.declared.verdict.CertFault.TheVariants.{BadLine}
-use Rattle.product_search.specs.declared.label.Label.{Label}
-use Rattle.certificate.specs.declared.lines.Line.{Line}
+use Rattle.plan_base.proofs.Common.{◌≡◌, ℕ, List, [], ◌∷◌, ◌++◌, map, refl, ap, sym, ◌∙◌, subst, Bool, true, false, cond, Option, Some, None, Result, Ok, Err, All, fold, codes, IfErr, AllByRecursion, slice_split, onto_first, All-nil, All-cons, All-append, All-drop}
+use Rattle.plain_texts.specs.{IsLine, is_feed, pieces, spaced, lines_from}
+use Rattle.plain_texts.proofs.{Pieces.text_of_lines, Spaced.spaced_is_line}
+use Rattle.mode_network.specs.{Step, Wait, Link, Stand, Ride, Route, declared.steps.Step.TheVariants.Road}
+use Rattle.journey.specs.{HasTime}
+use Rattle.certificate.specs.{CertFault, BadLine, Line, Claim, FitsLine, FitsStep, HasLabelTime, spelled, due_behind, is_last, FitsCertificate, FitsResult, IsCertText, cert_lines, cert_text, label_lines, result_lines, HasCause, cert_meaning, cert_of, nothing, put, made_by, Gives, line_at}
+use Rattle.product_search.specs.{Label}
 use Rattle.certificate.specs.declared.lines.Line.TheVariants as line
 use Rattle.certificate.specs.declared.due.Due.TheVariants as due
-use Rattle.certificate.specs.Certificates.{Claim}
-use Rattle.certificate.specs.Lines.{FitsLine, FitsStep, HasLabelTime, spelled}
-use Rattle.certificate.specs.Sections.{due_behind, is_last}
-use Rattle.certificate.specs.Texts.{FitsCertificate, FitsResult, IsCertText, cert_lines, cert_text, label_lines, result_lines}
-use Rattle.certificate.specs.Reading.{HasCause, cert_meaning, cert_of, nothing, put}
-use Rattle.certificate.proofs.FitLemmas.{both_parts, of_both}
-use Rattle.certificate.proofs.Making.{made_of, read_again, cause_is, gives_cause as gives_cause_by}
-use Rattle.certificate.specs.Making.{made_by, Gives, line_at}
-use Rattle.certificate.proofs.KindLaws.{IsInWords, words_are_words}
-use Rattle.certificate.proofs.SectionLaws.{reads_lines}
-use Rattle.certificate.proofs.Again.{made_again, runs_to_end}
-use Rattle.certificate.proofs.Found.{cert_is}
+use Rattle.certificate.proofs.{FitLemmas.both_parts, FitLemmas.of_both, Making.made_of, Making.read_again, Making.cause_is, Making.gives_cause as gives_cause_by, KindLaws.IsInWords, KindLaws.words_are_words, SectionLaws.reads_lines, Again.made_again, Again.runs_to_end, Found.cert_is}
 
 -- No piece of a text has a line feed in it.
 pub pieces_are_lines : (text : List ℕ) → AllByRecursion IsLine (pieces text)

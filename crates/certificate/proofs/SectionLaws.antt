@@ -1,16 +1,8 @@
 -- Reading a line where it stands.
-use Rattle.std.proofs.Common.{◌≡◌, ℕ, List, refl, ap, sym, ◌∙◌, true}
-use Rattle.std.specs.Prelude.{Some, None, option_and_then, option_map}
-use Rattle.std.proofs.lemmas.Bool.{false≢true}
-use Rattle.std.proofs.lemmas.Option.{option_and_then_some}
+use Rattle.plan_base.proofs.Common.{◌≡◌, ℕ, List, refl, ap, sym, ◌∙◌, true, Some, None, option_and_then, option_map, false≢true, option_and_then_some}
 use Rattle.plain_texts.proofs.Course.{ReadsLines}
-use Rattle.certificate.specs.declared.lines.Line.{Line}
-use Rattle.certificate.specs.declared.due.Due.{Due}
+use Rattle.certificate.specs.{Line, Due, FitsLine, spelled, LinedMeaning, line_at, cert_meaning, due_behind, is_last}
 use Rattle.certificate.specs.declared.due.Due.TheVariants as due
-use Rattle.certificate.specs.Lines.{FitsLine, spelled}
-use Rattle.certificate.specs.Making.{LinedMeaning, line_at}
-use Rattle.certificate.specs.Reading.{cert_meaning}
-use Rattle.certificate.specs.Sections.{due_behind, is_last}
 use Rattle.certificate.proofs.KindLaws.{mapped, line_takes, line_again}
 
 -- what a line by itself says, read exactly, is read so where it may stand

@@ -1,16 +1,9 @@
 -- Sets of states, state by state and letter by letter.
-use Rattle.std.proofs.Common.{◌≡◌, ℕ, ◌<◌, inl, inr, Bool, false, List, [], ◌∷◌, ◌++◌, length, get_or, refl, sym, ◌∙◌, ap, subst, arith}
-use Rattle.std.specs.Prelude.{IsBitSet}
-use Rattle.std.proofs.lemmas.Bool.{cases_lt}
-use Rattle.std.proofs.lemmas.List.{get_or_past}
-use Rattle.std.proofs.lemmas.Nat.Bits.{bit_at_above}
-use Rattle.search_laws.specs.Letters.{IsLetter, IsLetterSet, letter_count}
-use Rattle.search_laws.specs.LabelLaws.{LabelsMeaning, HasMove, Reads}
+use Rattle.plan_base.proofs.Common.{◌≡◌, ℕ, ◌<◌, inl, inr, Bool, false, List, [], ◌∷◌, ◌++◌, length, get_or, refl, sym, ◌∙◌, ap, subst, arith, IsBitSet, cases_lt, get_or_past, bit_at_above}
+use Rattle.search_laws.specs.{IsLetter, IsLetterSet, letter_count, LabelsMeaning, HasMove, Reads}
 use Rattle.search_laws.proofs.WalkLemmas.{reads_more}
-use Rattle.automaton.specs.CollapsedLaws.{set_bit}
-use Rattle.certificate.specs.declared.state_sets.KnownStep.{KnownStep}
-use Rattle.certificate.specs.declared.state_sets.StateSets.{StateSets}
-use Rattle.certificate.specs.StateSets.{IsInSet, LeadsTo, IsKnownStep, AreKnown, IsKept, IsStateAfter, AreAfter}
+use Rattle.automaton.specs.{set_bit}
+use Rattle.certificate.specs.{KnownStep, IsInSet, LeadsTo, IsKnownStep, AreKnown, IsKept, IsStateAfter, AreAfter, declared.state_sets.StateSets.StateSets}
 
 -- ---- sets
 
@@ -70,7 +63,3 @@ module _ (l : LabelsMeaning) where
       leads = rw (from, to, here) leads;
     }
   ]
-
-  -- from no state a letter leads to none
-  pub none_leads : (before after : List Bool) (c : ℕ) → ((q : ℕ) → IsInSet before q → ⊥) → ((q : ℕ) → IsInSet after q → ⊥) → LeadsTo l before c after
-  none_leads before after c none nobody r = (λ is. absurd (nobody r is), λ found. absurd (let (q, below, held, move) = found in none q held))

@@ -1,16 +1,10 @@
 -- The text of a certificate, part by part.
-use Rattle.std.proofs.Common.{◌≡◌, ℕ, Bool, List, [], ◌∷◌, ◌++◌, length, map, refl, ap, sym, ◌∙◌, append_assoc}
-use Rattle.std.specs.Prelude.{codes}
-use Rattle.std.specs.List.{flat_map}
-use Rattle.std.proofs.lemmas.List.{append-nil}
-use Rattle.plain_texts.specs.Lines.{lines_text, spaced, with_feed}
-use Rattle.mode_network.specs.declared.steps.Step.{Step}
-use Rattle.product_search.specs.declared.label.Label.{Label}
-use Rattle.certificate.specs.declared.lines.Line.{Line}
+use Rattle.plan_base.proofs.Common.{◌≡◌, ℕ, Bool, List, [], ◌∷◌, ◌++◌, length, map, refl, ap, sym, ◌∙◌, append_assoc, codes, flat_map, append-nil}
+use Rattle.plain_texts.specs.{lines_text, spaced, with_feed}
+use Rattle.mode_network.specs.{Step}
+use Rattle.product_search.specs.{Label}
+use Rattle.certificate.specs.{Line, Claim, spelled, cert_text, front_lines, label_lines, result_lines}
 use Rattle.certificate.specs.declared.lines.Line.TheVariants as line
-use Rattle.certificate.specs.Certificates.{Claim}
-use Rattle.certificate.specs.Lines.{spelled}
-use Rattle.certificate.specs.Texts.{cert_text, front_lines, label_lines, result_lines}
 
 pub lines_append : {L : Type 0} (spell : L → List ℕ) (xs ys : List L) → lines_text (map spell (xs ++ ys)) ≡ lines_text (map spell xs) ++ lines_text (map spell ys)
 lines_append spell [] ys = refl

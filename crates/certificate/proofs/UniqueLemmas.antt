@@ -1,49 +1,20 @@
 -- A certificate has one verdict. Each clause says the same however the timetable sorts the runs into patterns, and whichever position
 -- automaton of the expression is taken; and of the clauses one is the first that fails, at one place.
-use Rattle.std.proofs.Common.{◌≡◌, ℕ, zero, suc, ◌<◌, ◌≤◌, ◌⊎◌, inl, inr, List, [], ◌∷◌, ◌++◌, length, take, Bool, true, Option, Some, None, if◌then◌else◌, refl, sym, ap, ap₂, subst, ◌∙◌, arith}
-use Rattle.std.specs.Prelude.{slice_index_or, is_some, Ok, Err}
-use Rattle.std.proofs.lemmas.Bool.{cases_lt}
-use Rattle.search_laws.specs.Collapse.{collapse}
-use Rattle.search_laws.specs.GraphLaws.{GraphMeaning}
-use Rattle.search_laws.specs.LabelLaws.{LabelsMeaning, HasMove, AllAfter}
-use Rattle.search_laws.specs.Firsts.{HoldsBelow, FailsFirstAt}
+use Rattle.plan_base.proofs.Common.{◌≡◌, ℕ, zero, suc, ◌<◌, ◌≤◌, ◌⊎◌, inl, inr, List, [], ◌∷◌, ◌++◌, length, take, Bool, true, Option, Some, None, if◌then◌else◌, refl, sym, ap, ap₂, subst, ◌∙◌, arith, slice_index_or, is_some, Ok, Err, cases_lt}
+use Rattle.search_laws.specs.{collapse, GraphMeaning, LabelsMeaning, HasMove, AllAfter, HoldsBelow, FailsFirstAt}
 use Rattle.search_laws.proofs.FirstLemmas.{first_once}
-use Rattle.product_search.specs.declared.label.Label.{Label}
-use Rattle.product_search.specs.declared.verdict.LabelVerdict.{LabelVerdict}
-use Rattle.product_search.specs.declared.verdict.LabelVerdict.TheVariants.{Closed, Open}
-use Rattle.product_search.specs.Reach.{IsBefore}
-use Rattle.product_search.specs.Closed.{IsListedBy, IsInOrderAt, StartIsListedAt, IsNoEndAt, ArcsAreListedAt, start_states, start_pairs, pairs_at, IsVerdict}
-use Rattle.mode_expression.specs.Form.{IsWordOf}
-use Rattle.automaton.specs.Written.{written}
-use Rattle.automaton.specs.States.{IsPositionAutomaton}
-use Rattle.automaton.specs.Collapsed.{collapsed}
+use Rattle.product_search.specs.{Label, LabelVerdict, Open, IsBefore, IsListedBy, IsInOrderAt, StartIsListedAt, IsNoEndAt, ArcsAreListedAt, start_states, start_pairs, pairs_at, IsVerdict, declared.verdict.LabelVerdict.TheVariants.Closed}
+use Rattle.mode_expression.specs.{IsWordOf}
+use Rattle.automaton.specs.{written, IsPositionAutomaton, collapsed}
 use Rattle.automaton.proofs.SameLemmas.{AnswerAlike, positions_alike, collapsed_alike}
-use Rattle.hierarchy.specs.Lists.{HierarchyLists}
-use Rattle.phase_graph.specs.InUse.{IsInUse, IsSoundIfGiven, starts_in, ends_in, Covers, CoverEachOther}
+use Rattle.hierarchy.specs.{HierarchyLists}
+use Rattle.phase_graph.specs.{IsInUse, IsSoundIfGiven, starts_in, ends_in, Covers, CoverEachOther}
 use Rattle.phase_graph.proofs.InUseLemmas.{graphs_in_use_are_alike}
-use Rattle.mode_network.specs.NetworkLists.{NetworkLists}
-use Rattle.mode_network.specs.Rules.{IsNetwork}
-use Rattle.mode_network.specs.declared.steps.Step.{Step}
-use Rattle.mode_network.specs.Journeys.{Route, IsStep, AreSteps, IsJourney}
-use Rattle.mode_network.specs.Copies.{IsCopy}
+use Rattle.mode_network.specs.{NetworkLists.NetworkLists, IsNetwork, Step, Route, IsStep, AreSteps, IsJourney, IsCopy}
 use Rattle.mode_network.proofs.RuleLemmas.{some_is}
-use Rattle.journey.specs.declared.fault.QueryFault.{QueryFault}
-use Rattle.certificate.specs.declared.verdict.CertVerdict.{CertVerdict}
-use Rattle.certificate.specs.declared.verdict.CertVerdict.TheVariants.{Valid, Invalid}
-use Rattle.journey.specs.Best.{Asked, Asks}
-use Rattle.journey.specs.CopyLists.{AreTheCopies}
-use Rattle.journey.specs.Faults.{number_of}
-use Rattle.journey.specs.Queries.{IsRefused}
-use Rattle.journey.specs.Real.{IsFirstBad}
-use Rattle.journey.proofs.ReadingLemmas.{reading_is_unique}
-use Rattle.journey.proofs.CopyLemmas.{one_list_of_copies}
-use Rattle.journey.proofs.StepLemmas.{step_once, steps_once}
-use Rattle.journey.proofs.WalkLemmas.{bad_not_taken}
-use Rattle.certificate.specs.Certificates.{Claim}
-use Rattle.certificate.specs.Valid.{Setting, ResultHolds, claimed_arrival}
-use Rattle.certificate.specs.declared.claimed.Goal.{Goal}
-use Rattle.certificate.specs.Claimed.{IsTimely, FailsFirstOfThree, JourneyFails, IsAsClaimed}
-use Rattle.certificate.specs.Verdicts.{goal_of, IsResultVerdict, IsCertVerdict, VerdictIsUnique, as_verdict}
+use Rattle.journey.specs.{QueryFault, Asked, Asks, AreTheCopies, number_of, IsRefused, IsFirstBad}
+use Rattle.certificate.specs.{CertVerdict, Invalid, Claim, Setting, ResultHolds, claimed_arrival, Goal, IsTimely, FailsFirstOfThree, JourneyFails, IsAsClaimed, goal_of, IsResultVerdict, IsCertVerdict, VerdictIsUnique, as_verdict, declared.verdict.CertVerdict.TheVariants.Valid}
+use Rattle.journey.proofs.{ReadingLemmas.reading_is_unique, CopyLemmas.one_list_of_copies, StepLemmas.step_once, StepLemmas.steps_once, WalkLemmas.bad_not_taken}
 use Rattle.certificate.proofs.VerdictLemmas.{answers_as_claimed}
 
 -- ---- the clauses of labels, over two graphs and two automata that answer alike

@@ -1,22 +1,10 @@
 -- The verdict on a journey that is claimed.
-use Rattle.std.proofs.Common.{ℕ, ◌≤◌, inl, inr, List, Option, Some, None, refl}
-use Rattle.std.specs.Prelude.{Contains, ◌↔◌}
-use Rattle.search_laws.specs.LabelLaws.{LabelsMeaning, Accepts}
-use Rattle.search_laws.specs.Collapse.{collapse}
-use Rattle.mode_expression.specs.Form.{IsWordOf}
-use Rattle.mode_network.specs.NetworkLists.{NetworkLists}
-use Rattle.mode_network.specs.Journeys.{Route}
-use Rattle.mode_network.specs.Copies.{IsCopy}
-use Rattle.certificate.specs.declared.verdict.CertVerdict.TheVariants.{Valid, Invalid}
-use Rattle.certificate.specs.declared.walked.Walked.{Walked}
-use Rattle.certificate.specs.declared.claimed.Goal.{Goal}
-use Rattle.certificate.specs.declared.claimed.JourneyCheck.{JourneyCheck}
-use Rattle.journey.specs.Best.{Asked, Answers, asked_by}
-use Rattle.certificate.specs.Claimed.{IsTimely, StartsWell, FailsFirstOfThree, IsFirstFailing, IsAsClaimed, IsClaimVerdict}
-use Rattle.certificate.specs.Checks.{IsSetUp}
-use Rattle.certificate.specs.Verdicts.{goal_of}
-use Rattle.certificate.specs.StateSets.{AreAfter}
-use Rattle.certificate.specs.Walked.{IsWalkedTo}
+use Rattle.plan_base.proofs.Common.{ℕ, ◌≤◌, inl, inr, List, Option, Some, None, refl, Contains, ◌↔◌}
+use Rattle.search_laws.specs.{LabelsMeaning, Accepts, collapse}
+use Rattle.mode_expression.specs.{IsWordOf}
+use Rattle.mode_network.specs.{NetworkLists.NetworkLists, Route, IsCopy}
+use Rattle.certificate.specs.{declared.verdict.CertVerdict.TheVariants.Valid, Invalid, Goal, JourneyCheck, IsTimely, StartsWell, FailsFirstOfThree, IsFirstFailing, IsAsClaimed, IsClaimVerdict, IsSetUp, goal_of, AreAfter, IsWalkedTo, declared.walked.Walked.Walked}
+use Rattle.journey.specs.{Asked, Answers, asked_by}
 
 -- the first of three facts fails where the first of three others does that hold exactly as they do
 pub fails_same : (P Q R P2 R2 : Type 0) → P ↔ P2 → R ↔ R2 → (at : ℕ) → FailsFirstOfThree P Q R at → FailsFirstOfThree P2 Q R2 at

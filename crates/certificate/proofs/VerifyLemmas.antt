@@ -1,41 +1,18 @@
 -- What the checks of a certificate say of it together.
-use Rattle.std.proofs.Common.{◌≡◌, ℕ, zero, suc, ◌^◌, ◌<◌, ◌≤◌, inl, inr, List, length, get_or, Bool, false, Option, Some, None, refl, sym, ◌∙◌, subst, arith}
-use Rattle.std.specs.Prelude.{All, AllPairs, ◌↔◌, is_some}
-use Rattle.std.proofs.lemmas.Bool.{cases_lt}
-use Rattle.std.proofs.lemmas.List.{length-map}
-use Rattle.search_laws.specs.LabelLaws.{LabelsMeaning, IsLawfulLabels, Accepts}
-use Rattle.search_laws.specs.GraphLaws.{GraphMeaning}
-use Rattle.search_laws.specs.Walks.{ArrivesAt, word_from}
-use Rattle.search_laws.specs.Collapse.{collapse}
-use Rattle.product_search.specs.declared.label.Label.{Label}
-use Rattle.product_search.specs.declared.verdict.LabelVerdict.{LabelVerdict}
-use Rattle.product_search.specs.declared.verdict.LabelVerdict.TheVariants.{Closed, Open}
-use Rattle.product_search.specs.Closed.{IsVerdict, NoneArrivesBefore}
+use Rattle.plan_base.proofs.Common.{◌≡◌, ℕ, zero, suc, ◌^◌, ◌<◌, ◌≤◌, inl, inr, List, length, get_or, Bool, false, Option, Some, None, refl, sym, ◌∙◌, subst, arith, All, AllPairs, ◌↔◌, is_some, cases_lt, length-map}
+use Rattle.search_laws.specs.{LabelsMeaning, IsLawfulLabels, Accepts, GraphMeaning, ArrivesAt, word_from, collapse}
+use Rattle.product_search.specs.{Label, LabelVerdict, Open, IsVerdict, NoneArrivesBefore, declared.verdict.LabelVerdict.TheVariants.Closed}
 use Rattle.product_search.proofs.BoundLemmas.{bound}
-use Rattle.automaton.specs.declared.positions.Positions.{Positions}
-use Rattle.automaton.specs.Meanings.{position_meaning}
-use Rattle.automaton.specs.Written.{written}
-use Rattle.automaton.specs.States.{IsPositionAutomaton}
-use Rattle.automaton.specs.Collapsed.{collapsed, AcceptsCollapsed}
+use Rattle.automaton.specs.{Positions, position_meaning, written, IsPositionAutomaton, collapsed, AcceptsCollapsed}
 use Rattle.automaton.proofs.AcceptLemmas.{collapsed_accept}
-use Rattle.hierarchy.specs.Lists.{HierarchyLists}
-use Rattle.phase_graph.specs.Arcs.{phase_node}
-use Rattle.phase_graph.specs.InUse.{IsInUse, IsSoundIfGiven, starts_in, ends_in}
+use Rattle.hierarchy.specs.{HierarchyLists}
+use Rattle.phase_graph.specs.{phase_node, IsInUse, IsSoundIfGiven, starts_in, ends_in}
 use Rattle.phase_graph.proofs.InUseLemmas.{journeys_have_walks_in_use, graphs_in_use_are_lawful}
-use Rattle.mode_expression.specs.declared.expr.Expr.{Expr}
-use Rattle.mode_expression.specs.Form.{form_of, IsWordOf, Denotes}
+use Rattle.mode_expression.specs.{Expr, form_of, IsWordOf, Denotes}
 use Rattle.mode_expression.proofs.ParseLemmas.{expressions_are_usable}
-use Rattle.mode_network.specs.NetworkLists.{NetworkLists, nodes_of}
-use Rattle.mode_network.specs.Rules.{IsNetwork}
-use Rattle.mode_network.specs.Journeys.{Route}
-use Rattle.journey.specs.declared.query.Query.{Query}
-use Rattle.certificate.specs.declared.verdict.CertVerdict.TheVariants.{Valid, Invalid}
-use Rattle.journey.specs.Queries.{IsQuery}
-use Rattle.journey.specs.CopyLists.{AreTheCopies}
-use Rattle.journey.specs.Best.{Asked, Answers, asked_by}
-use Rattle.certificate.specs.Certificates.{Claim}
-use Rattle.certificate.specs.Valid.{Setting, ResultHolds, claimed_arrival, IsBestResult, ValidProves}
-use Rattle.certificate.specs.Verdicts.{claim_on, AreDenoted, IsResultVerdict, IsCertVerdict, as_verdict}
+use Rattle.mode_network.specs.{NetworkLists.NetworkLists, nodes_of, IsNetwork, Route}
+use Rattle.journey.specs.{Query, IsQuery, AreTheCopies, Asked, Answers, asked_by}
+use Rattle.certificate.specs.{declared.verdict.CertVerdict.TheVariants.Valid, Invalid, Claim, Setting, ResultHolds, claimed_arrival, IsBestResult, ValidProves, claim_on, AreDenoted, IsResultVerdict, IsCertVerdict, as_verdict}
 
 -- ---- how many copies there are
 

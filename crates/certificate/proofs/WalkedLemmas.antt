@@ -1,22 +1,10 @@
 -- A journey as far as it was walked.
-use Rattle.std.proofs.Common.{◌≡◌, ℕ, ◌+◌, ◌*◌, ◌^◌, ◌<◌, ◌∙◌, List, [], ◌∷◌, ◌++◌, length, take, Option, Some, ap, sym, subst}
-use Rattle.std.specs.Prelude.{option_to_list, slice_index_or, All}
-use Rattle.std.proofs.Math.Seq.{take-length}
-use Rattle.std.proofs.lemmas.List.{take_more}
-use Rattle.std.proofs.lemmas.Option.{slice_get-get_or}
-use Rattle.search_laws.specs.Times.{time_bound}
-use Rattle.search_laws.specs.LabelLaws.{LabelsMeaning}
-use Rattle.mode_network.specs.declared.steps.Step.{Step}
-use Rattle.mode_network.specs.NetworkLists.{NetworkLists}
-use Rattle.mode_network.specs.Journeys.{IsStep, AreSteps}
-use Rattle.journey.specs.declared.step_ends.StepEnd.{StepEnd}
-use Rattle.journey.specs.Rides.{KeepsRules}
-use Rattle.journey.specs.Ends.{HasTime}
-use Rattle.journey.specs.Real.{IsFirstBad}
+use Rattle.plan_base.proofs.Common.{◌≡◌, ℕ, ◌+◌, ◌*◌, ◌^◌, ◌<◌, ◌∙◌, List, [], ◌∷◌, ◌++◌, length, take, Option, Some, ap, sym, subst, option_to_list, slice_index_or, All, take-length, take_more, slice_get-get_or}
+use Rattle.search_laws.specs.{time_bound, LabelsMeaning}
+use Rattle.mode_network.specs.{Step, IsStep, AreSteps, NetworkLists.NetworkLists}
+use Rattle.journey.specs.{StepEnd, KeepsRules, HasTime, IsFirstBad}
 use Rattle.journey.proofs.StepLemmas.{steps_more, step_in_time, on_time}
-use Rattle.certificate.specs.declared.walked.Walked.{Walked}
-use Rattle.certificate.specs.StateSets.{AreAfter}
-use Rattle.certificate.specs.Walked.{IsWalkedTo}
+use Rattle.certificate.specs.{declared.walked.Walked.Walked, AreAfter, IsWalkedTo}
 
 -- after k steps from v at t this is where and when the journey is, and these are the states after its letters
 pub record IsWalking (n : NetworkLists) (l : LabelsMeaning) (v t : ℕ) (steps : List Step) (k : ℕ) (walked : Walked) : Type 0 where

@@ -1,11 +1,10 @@
 -- What a journey that is claimed is checked by.
 use Rattle.std.specs.Prelude.{[]}
-use Rattle.search_laws.specs.LabelLaws.{LabelsMeaning}
-use Rattle.mode_expression.specs.Form.{form_of}
-use Rattle.journey.specs.CopyLists.{AreTheCopies}
-use Rattle.certificate.specs.declared.claimed.JourneyCheck.{JourneyCheck}
-use Rattle.certificate.specs.StateSets.{AreAfter}
-use Rattle.certificate.specs.Verdicts.{AreDenoted}
+use Rattle.search_laws.specs.{LabelsMeaning}
+use Rattle.mode_expression.specs.{form_of}
+use Rattle.journey.specs.{AreTheCopies}
+pub use Rattle.certificate.specs.declared.claimed.JourneyCheck.{JourneyCheck}
+use Rattle.certificate.specs.{StateSets.AreAfter, Verdicts.AreDenoted}
 
 -- the origins and the destinations are the copies of the query's endpoints, its expression denotes what the automaton accepts, and no letter is read yet
 pub record IsSetUp {L : Type 0} (l : LabelsMeaning) (check : JourneyCheck L) : Type 0 where

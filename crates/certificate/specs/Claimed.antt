@@ -1,16 +1,9 @@
 -- Clauses 3 to 5 of a certificate: of the journey that is claimed.
 use Rattle.std.specs.Prelude.{◌≡◌, ℕ, ◌≤◌, ◌⊎◌, List, Option, Some, None}
-use Rattle.mode_expression.specs.Form.{IsWordOf}
-use Rattle.mode_network.specs.NetworkLists.{NetworkLists}
-use Rattle.mode_network.specs.Journeys.{Route, IsJourney}
-use Rattle.mode_network.specs.Copies.{IsCopy}
-use Rattle.certificate.specs.declared.verdict.CertVerdict.{CertVerdict}
-use Rattle.certificate.specs.declared.verdict.CertVerdict.TheVariants.{Valid, Invalid}
-use Rattle.journey.specs.Real.{IsFirstBad}
-use Rattle.journey.specs.Best.{Asked}
-use Rattle.certificate.specs.declared.claimed.Arrival.{Arrival}
-use Rattle.certificate.specs.declared.claimed.Arrival.TheVariants.{At, By}
-use Rattle.certificate.specs.declared.claimed.Goal.{Goal}
+use Rattle.mode_expression.specs.{IsWordOf}
+use Rattle.mode_network.specs.{NetworkLists.NetworkLists, Route, IsJourney, IsCopy}
+pub use Rattle.certificate.specs.{declared.verdict.CertVerdict.CertVerdict, declared.verdict.CertVerdict.TheVariants.Valid, declared.verdict.CertVerdict.TheVariants.Invalid, declared.claimed.Arrival.Arrival, declared.claimed.Arrival.TheVariants.At, declared.claimed.Arrival.TheVariants.By, declared.claimed.Goal.Goal}
+use Rattle.journey.specs.{IsFirstBad, Asked}
 
 -- one who arrives at t arrives as is claimed
 abbrev pub IsTimely : Arrival → ℕ → Type 0

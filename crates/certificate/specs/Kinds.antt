@@ -1,11 +1,9 @@
 -- What a line says, read word by word.
-use Rattle.std.specs.Prelude.{ℕ, ◌^◌, List, [], ◌∷◌, length, take, drop, codes, Bool, true, false, Option, Some, None, option_and_then, option_map, ◌&&◌, if◌then◌else◌}
-use Rattle.std.specs.Str.{bytes_eq}
-use Rattle.plain_texts.specs.Lines.{words_of}
-use Rattle.plain_texts.specs.Numbers.{number_at}
-use Rattle.mode_network.specs.declared.steps.Step.TheVariants.{Wait, Road, Link, Stand, Ride}
-use Rattle.search_laws.specs.Times.{time_bound}
-use Rattle.product_search.specs.declared.label.Label.{Label}
+use Rattle.std.specs.Prelude.{ℕ, ◌^◌, List, [], ◌∷◌, length, take, drop, codes, Bool, true, false, Option, Some, None, option_and_then, option_map, ◌&&◌, if◌then◌else◌, bytes_eq}
+use Rattle.plain_texts.specs.{words_of, number_at}
+use Rattle.mode_network.specs.{Wait, Link, Stand, Ride, declared.steps.Step.TheVariants.Road}
+use Rattle.search_laws.specs.{time_bound}
+use Rattle.product_search.specs.{Label}
 use Rattle.certificate.specs.declared.lines.Line.{Line}
 use Rattle.certificate.specs.declared.lines.Line.TheVariants as line
 

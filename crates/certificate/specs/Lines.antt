@@ -1,11 +1,10 @@
 -- The lines of a certificate text, in words.
 use Rattle.std.specs.Prelude.{ℕ, ◌<◌, ◌^◌, List, [], ◌∷◌, Bool, if◌then◌else◌, codes, decimal}
-use Rattle.plain_texts.specs.Lines.{spaced}
-use Rattle.mode_network.specs.declared.steps.Step.{Step}
-use Rattle.mode_network.specs.declared.steps.Step.TheVariants.{Wait, Road, Link, Stand, Ride}
-use Rattle.search_laws.specs.Times.{time_bound}
-use Rattle.product_search.specs.declared.label.Label.{Label}
-use Rattle.certificate.specs.declared.lines.Line.{Line}
+use Rattle.plain_texts.specs.{spaced}
+use Rattle.mode_network.specs.{Step, Wait, Link, Stand, Ride, declared.steps.Step.TheVariants.Road}
+use Rattle.search_laws.specs.{time_bound}
+use Rattle.product_search.specs.{Label}
+pub use Rattle.certificate.specs.declared.lines.Line.{Line}
 use Rattle.certificate.specs.declared.lines.Line.TheVariants as line
 
 abbrev pub graph_name : Bool → List ℕ

@@ -1,9 +1,7 @@
 -- What the lines of a text make, one put after the other; and what is wrong with bytes that make nothing. For every kind of certificates.
 use Rattle.std.specs.Prelude.{◌≡◌, ℕ, ◌⊎◌, List, Bool, Option, Result, Ok, Err, fold, option_and_then, option_map}
-use Rattle.plain_texts.specs.Lines.{pieces}
-use Rattle.plain_texts.specs.Course.{Course, whole, bad, trailing, lines_from, IsFirstBad, IsTrailing}
-use Rattle.certificate.specs.declared.verdict.CertFault.{CertFault}
-use Rattle.certificate.specs.declared.verdict.CertFault.TheVariants.{BadLine, OutOfMemory}
+use Rattle.plain_texts.specs.{pieces, whole, bad, trailing, lines_from, IsFirstBad, IsTrailing, Course.Course}
+pub use Rattle.certificate.specs.{declared.verdict.CertFault.CertFault, declared.verdict.CertFault.TheVariants.BadLine, declared.verdict.CertFault.TheVariants.OutOfMemory}
 
 -- what all lines of a course make, or its fault
 abbrev pub made_by : {L M : Type 0} → (M → L → M) → M → Course L → Result M CertFault

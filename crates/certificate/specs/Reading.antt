@@ -1,17 +1,9 @@
 -- What the lines of a certificate text make, and what is wrong with bytes that are no certificate.
 use Rattle.std.specs.Prelude.{ℕ, List, [], ◌∷◌, ◌++◌, Some, None, option_map, Result, false}
-use Rattle.mode_network.specs.declared.steps.Step.{Step}
-use Rattle.mode_network.specs.Journeys.{Route}
-use Rattle.certificate.specs.declared.verdict.CertFault.{CertFault}
-use Rattle.certificate.specs.declared.lines.Line.{Line}
+use Rattle.mode_network.specs.{Step, Route}
+use Rattle.certificate.specs.{declared.verdict.CertFault.CertFault, declared.lines.Line.Line, declared.due.Due.Due, Certificates.Claim, Kinds.line_of, Lines.FitsLine, Lines.spelled, Making.IsCause, Making.LinedMeaning, Making.reading, Sections.due_behind, Sections.is_last}
 use Rattle.certificate.specs.declared.lines.Line.TheVariants as line
-use Rattle.certificate.specs.declared.due.Due.{Due}
 use Rattle.certificate.specs.declared.due.Due.TheVariants as due
-use Rattle.certificate.specs.Certificates.{Claim}
-use Rattle.certificate.specs.Kinds.{line_of}
-use Rattle.certificate.specs.Lines.{FitsLine, spelled}
-use Rattle.certificate.specs.Making.{IsCause, LinedMeaning, reading}
-use Rattle.certificate.specs.Sections.{due_behind, is_last}
 
 -- no line yet
 abbrev pub nothing : Claim

@@ -3,7 +3,7 @@
 use Rattle.std.specs.Prelude.{◌-◌, Bool, true, false, Option, Some, None, nat_lt, nat_eq, if◌then◌else◌}
 use Rattle.certificate.specs.declared.lines.Line.{Line}
 use Rattle.certificate.specs.declared.lines.Line.TheVariants as line
-use Rattle.certificate.specs.declared.due.Due.{Due}
+pub use Rattle.certificate.specs.declared.due.Due.{Due}
 use Rattle.certificate.specs.declared.due.Due.TheVariants as due
 
 -- what is due behind a line, if the line may stand here

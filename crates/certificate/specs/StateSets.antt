@@ -1,8 +1,7 @@
 -- Sets of states of an automaton, and the letters that lead to them.
 use Rattle.std.specs.Prelude.{◌≡◌, ℕ, ◌<◌, ◌↔◌, ◌⊎◌, Bool, true, false, List, length, slice_index_or, IsTrue}
-use Rattle.search_laws.specs.LabelLaws.{LabelsMeaning, IsMove, HasMove, Reads}
-use Rattle.certificate.specs.declared.state_sets.KnownStep.{KnownStep}
-use Rattle.certificate.specs.declared.state_sets.StateSets.{StateSets}
+use Rattle.search_laws.specs.{LabelsMeaning, IsMove, HasMove, Reads}
+pub use Rattle.certificate.specs.{declared.state_sets.KnownStep.KnownStep, declared.state_sets.StateSets.StateSets}
 
 -- the state is in the set
 abbrev pub IsInSet : List Bool → ℕ → Type 0

@@ -1,14 +1,12 @@
 -- The text of a certificate.
 use Rattle.std.specs.Prelude.{◌≡◌, ℕ, List, [], ◌∷◌, ◌++◌, length, map, Bool, Option, Some, None, All}
 use Rattle.std.specs.List.{AllByRecursion}
-use Rattle.plain_texts.specs.Lines.{IsLine, lines_text}
-use Rattle.mode_network.specs.Journeys.{Route}
-use Rattle.journey.specs.Ends.{HasTimes}
-use Rattle.product_search.specs.declared.label.Label.{Label}
-use Rattle.certificate.specs.declared.lines.Line.{Line}
+use Rattle.plain_texts.specs.{IsLine, lines_text}
+use Rattle.mode_network.specs.{Route}
+use Rattle.journey.specs.{HasTimes}
+use Rattle.product_search.specs.{Label}
+use Rattle.certificate.specs.{declared.lines.Line.Line, Certificates.Claim, Lines.FitsLine, Lines.HasLabelTime, Lines.IsTime, Lines.spelled}
 use Rattle.certificate.specs.declared.lines.Line.TheVariants as line
-use Rattle.certificate.specs.Certificates.{Claim}
-use Rattle.certificate.specs.Lines.{FitsLine, HasLabelTime, IsTime, spelled}
 
 -- the arrival, and where and when the journey starts and its steps; or that there is none
 abbrev pub result_lines : Option (ℕ × Route) → List Line

@@ -1,20 +1,12 @@
 -- When a certificate is valid, and what it then proves.
 use Rattle.std.specs.Prelude.{◌≡◌, ℕ, ◌<◌, List, Option, Some, None, is_some, IfSome, All, option_map}
-use Rattle.search_laws.specs.Times.{time_bound}
-use Rattle.search_laws.specs.GraphLaws.{GraphMeaning}
-use Rattle.search_laws.specs.LabelLaws.{LabelsMeaning, IsLawfulLabels}
-use Rattle.product_search.specs.Closed.{IsClosed}
-use Rattle.automaton.specs.Written.{written}
-use Rattle.automaton.specs.States.{IsPositionAutomaton}
-use Rattle.automaton.specs.Collapsed.{collapsed}
-use Rattle.hierarchy.specs.Lists.{HierarchyLists}
-use Rattle.phase_graph.specs.InUse.{IsInUse, IsSoundIfGiven, starts_in, ends_in}
-use Rattle.mode_network.specs.NetworkLists.{NetworkLists}
-use Rattle.mode_network.specs.Rules.{IsNetwork}
-use Rattle.mode_network.specs.Journeys.{Route}
-use Rattle.journey.specs.CopyLists.{AreTheCopies}
-use Rattle.journey.specs.Ends.{HasTimes}
-use Rattle.journey.specs.Best.{Asked, Asks, Answers, IsBest, HasNone}
+use Rattle.search_laws.specs.{time_bound, GraphMeaning, LabelsMeaning, IsLawfulLabels}
+use Rattle.product_search.specs.{IsClosed}
+use Rattle.automaton.specs.{written, IsPositionAutomaton, collapsed}
+use Rattle.hierarchy.specs.{HierarchyLists}
+use Rattle.phase_graph.specs.{IsInUse, IsSoundIfGiven, starts_in, ends_in}
+use Rattle.mode_network.specs.{NetworkLists.NetworkLists, IsNetwork, Route}
+use Rattle.journey.specs.{AreTheCopies, HasTimes, Asked, Asks, Answers, IsBest, HasNone}
 use Rattle.certificate.specs.Certificates.{Claim}
 
 -- What a line asks of a network, and what its labels are read over: the copies of its endpoints in order, the graph in use, and the

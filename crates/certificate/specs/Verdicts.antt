@@ -1,30 +1,14 @@
 -- The first clause of a certificate that fails, at the first place where it does.
 use Rattle.std.specs.Prelude.{◌≡◌, ℕ, ◌↔◌, ◌⊎◌, is_some, List, Option, Some, None}
-use Rattle.mode_expression.specs.Form.{Form, IsWordOf}
-use Rattle.search_laws.specs.LabelLaws.{LabelsMeaning, Accepts}
-use Rattle.search_laws.specs.Collapse.{collapse}
-use Rattle.product_search.specs.declared.label.Label.{Label}
-use Rattle.product_search.specs.declared.verdict.LabelVerdict.{LabelVerdict}
-use Rattle.product_search.specs.declared.verdict.LabelVerdict.TheVariants.{Closed, Open}
-use Rattle.product_search.specs.Closed.{IsVerdict}
-use Rattle.automaton.specs.Collapsed.{collapsed}
-use Rattle.hierarchy.specs.Lists.{HierarchyLists}
-use Rattle.phase_graph.specs.InUse.{IsSoundIfGiven, starts_in, ends_in}
-use Rattle.mode_network.specs.NetworkLists.{NetworkLists}
-use Rattle.mode_network.specs.Rules.{IsNetwork}
-use Rattle.mode_network.specs.Journeys.{Route}
-use Rattle.journey.specs.declared.fault.QueryFault.{QueryFault}
-use Rattle.journey.specs.declared.query.Query.{Query}
-use Rattle.certificate.specs.declared.verdict.CertVerdict.{CertVerdict}
-use Rattle.certificate.specs.declared.verdict.CertVerdict.TheVariants.{Valid, Invalid}
-use Rattle.journey.specs.Faults.{number_of}
-use Rattle.journey.specs.Queries.{IsRefused}
-use Rattle.journey.specs.Best.{Asked, Asks, Answers}
-use Rattle.certificate.specs.declared.claimed.Arrival.TheVariants.{At}
-use Rattle.certificate.specs.declared.claimed.Goal.{Goal}
-use Rattle.certificate.specs.Certificates.{Claim}
-use Rattle.certificate.specs.Claimed.{JourneyFails}
-use Rattle.certificate.specs.Valid.{Setting, ResultHolds, claimed_arrival, IsValid}
+use Rattle.mode_expression.specs.{Form.Form, IsWordOf}
+use Rattle.search_laws.specs.{LabelsMeaning, Accepts, collapse}
+use Rattle.product_search.specs.{Label, LabelVerdict, Open, IsVerdict, declared.verdict.LabelVerdict.TheVariants.Closed}
+use Rattle.automaton.specs.{collapsed}
+use Rattle.hierarchy.specs.{HierarchyLists}
+use Rattle.phase_graph.specs.{IsSoundIfGiven, starts_in, ends_in}
+use Rattle.mode_network.specs.{NetworkLists.NetworkLists, IsNetwork, Route}
+use Rattle.journey.specs.{QueryFault, Query, number_of, IsRefused, Asked, Asks, Answers}
+use Rattle.certificate.specs.{declared.verdict.CertVerdict.CertVerdict, declared.verdict.CertVerdict.TheVariants.Valid, declared.verdict.CertVerdict.TheVariants.Invalid, declared.claimed.Arrival.TheVariants.At, declared.claimed.Goal.Goal, Certificates.Claim, Claimed.JourneyFails, Valid.Setting, Valid.ResultHolds, Valid.claimed_arrival, Valid.IsValid}
 
 -- what is claimed of a query, by labels of phases where a hierarchy is given
 abbrev pub claim_on : Query → Option HierarchyLists → Option (ℕ × Route) → List Label → Claim

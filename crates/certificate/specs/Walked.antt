@@ -1,11 +1,9 @@
 -- A journey that was walked: where and when it ends, and the states that its letters are read to.
 use Rattle.std.specs.Prelude.{ℕ, List, Result, Ok, Err}
-use Rattle.search_laws.specs.LabelLaws.{LabelsMeaning}
-use Rattle.mode_network.specs.declared.steps.Step.{Step}
-use Rattle.mode_network.specs.NetworkLists.{NetworkLists}
-use Rattle.mode_network.specs.Journeys.{AreSteps}
-use Rattle.journey.specs.Real.{IsFirstBad}
-use Rattle.certificate.specs.declared.walked.Walked.{Walked}
+use Rattle.search_laws.specs.{LabelsMeaning}
+use Rattle.mode_network.specs.{Step, AreSteps, NetworkLists.NetworkLists}
+use Rattle.journey.specs.{IsFirstBad}
+pub use Rattle.certificate.specs.declared.walked.Walked.{Walked}
 use Rattle.certificate.specs.StateSets.{AreAfter}
 
 -- the steps from v at t end so, and these are the states after their letters

@@ -1,15 +1,13 @@
 -- Which command of the program words name, and that what this command takes the program takes.
-use Rattle.std.proofs.Common.{◌≡◌, ◌∙◌, Bool, true, false, List, [], ◌∷◌, Some, refl, ap, ap₂, codes}
-use Rattle.std.specs.Prelude.{find, fold, is_some, option_map}
+use Rattle.std.proofs.Common.{◌≡◌, ◌∙◌, Bool, true, false, List, [], ◌∷◌, Some, refl, ap, ap₂, codes, find, fold, is_some, option_map}
 use Rattle.std.specs.Option.{option_map_or}
 use Rattle.clap.specs.Walk.{Held, Row, Text, Walk, answers_to, finished, nothing_held, settled, walk, walk_from, walked}
 use Rattle.clap.specs.Simple.{Shape, built, entered, label_of, names_of, rows_at, subcommand_of}
 use Rattle.clap.specs.Kinds.{Kinds, or_else}
 use Rattle.clap.specs.Faults.{check_fault, defaults_fault, entered_fault, fault_of, level_fault, settle_fault, turn_fault, walk_fault}
 use Rattle.clap.proofs.OnLiterals.{clap_on_literals}
-use Rattle.command_line.specs.Description.{limits, modeplan, single_word, two, four, six}
-use Rattle.command_line.proofs.PlainLemmas.{leaf}
-use Rattle.command_line.proofs.WordSteps.{Reads, no_more_faults, stops}
+use Rattle.command_line.specs.{limits, modeplan, single_word, two, four, six}
+use Rattle.command_line.proofs.{PlainLemmas.leaf, WordSteps.Reads, WordSteps.no_more_faults, WordSteps.stops}
 
 abbrev top : Shape
 top = (built modeplan).top

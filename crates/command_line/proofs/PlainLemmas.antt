@@ -6,8 +6,7 @@ use Rattle.clap.specs.Faults.{turn_fault}
 use Rattle.clap.specs.declared.parser.matches.ValueSource.TheVariants.{CommandLine}
 use Rattle.clap.specs.declared.builder.value_parser.Reading.TheVariants.{AsWritten}
 use Rattle.clap.proofs.OnLiterals.{clap_on_literals}
-use Rattle.command_line.specs.Description.{command_of, limits, modeplan, single_word, two, four, six}
-use Rattle.command_line.specs.PlainWords.{ArePlainWords, IsPlainWord, option_values, option_words}
+use Rattle.command_line.specs.{command_of, limits, modeplan, single_word, two, four, six, ArePlainWords, IsPlainWord, option_values, option_words}
 use Rattle.command_line.proofs.WordSteps.{Reads, Walks, between, end_fault, ends, name_more, reads, value_more, waits_for, word_more}
 
 -- what is found for one value

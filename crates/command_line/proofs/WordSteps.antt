@@ -1,13 +1,11 @@
 -- How `clap` goes over the words of a command that has no commands below it, where each word but the options' names is plain.
-use Rattle.std.proofs.Common.{◌≡◌, ◌∙◌, ◌&&◌, ℕ, Bool, true, false, not, List, [], ◌∷◌, ◌++◌, Some, None, refl, ap, ap₂, sym, append-nil, append_assoc}
-use Rattle.std.specs.Prelude.{fold, option_and_then, if◌then◌else◌, nat_eq}
-use Rattle.std.specs.Str.{bytes_eq}
+use Rattle.std.proofs.Common.{◌≡◌, ◌∙◌, ◌&&◌, ℕ, Bool, true, false, not, List, [], ◌∷◌, ◌++◌, Some, None, refl, ap, ap₂, sym, append-nil, append_assoc, fold, option_and_then, if◌then◌else◌, nat_eq, bytes_eq}
 use Rattle.clap.specs.Lexer.{strip_byte, long_of, long_of_rest, short_of, short_of_rest}
 use Rattle.clap.specs.Walk.{Held, Names, walked_from, after_step, Rule, Step, Text, Walk, idle, option, value, next, arg_by_id, arg_by_index, finished, long_or_other, nothing_held, option_word, rows_after, Row, settled, short_or_plain, to_positional, trailing, walked, word_met, plain_word, Waiting}
 use Rattle.clap.specs.Simple.{Shape}
 use Rattle.clap.specs.Kinds.{Kinds, or_else}
 use Rattle.clap.specs.Faults.{check_fault, defaults_fault, flag_word_fault, level_fault, settle_fault, step_fault, turn_fault, walk_fault}
-use Rattle.command_line.specs.PlainWords.{IsPlainWord}
+use Rattle.command_line.specs.{IsPlainWord}
 
 -- ---- a plain word is no flag
 

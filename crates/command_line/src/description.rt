@@ -1,8 +1,7 @@
 //! The command line of `modeplan`, as `clap` and people are told of it.
 
 ghost use Rattle.std.specs.Prelude.{◌≡◌, ◌++◌, ◌∷◌, [], IfOk, codes, false, fold, map};
-ghost use Rattle.clap.specs.Words.{Shape, Text, app_of, new_app, rule_of, with_subcommand};
-ghost use Rattle.clap.specs.declared.builder.command.Command.TheViews.{out-Command as fields_of};
+ghost use Rattle.clap.specs.Words.{Shape, app_of, new_app, rule_of, with_subcommand};
 ghost use Rattle.command_line.specs.Description.{IsToldToClap, command_of, earliest_commands, four, latest_commands, limits, many_commands, modeplan, option, region_commands, single_word, six, two, word};
 
 use clap::{Arg, ArgAction, Command};

@@ -1,10 +1,7 @@
 -- A name that is none of the commands' asks for nothing.
-use Rattle.std.proofs.Common.{◌≡◌, ℕ, Bool, true, false, cond, List, [], ◌∷◌, Option, Some, None, refl, sym}
-use Rattle.std.specs.Prelude.{⊤, find, option_and_then}
-use Rattle.std.specs.Str.{bytes_eq}
-use Rattle.std.proofs.lemmas.Slice.Eq.{bytes_eq-Decides}
+use Rattle.plan_base.proofs.Common.{◌≡◌, ℕ, Bool, true, false, cond, List, [], ◌∷◌, Option, Some, None, refl, sym, ⊤, find, option_and_then, bytes_eq, bytes_eq-Decides}
 use Rattle.clap.specs.Words.{Row}
-use Rattle.command_words.specs.Requests.{Request}
+use Rattle.command_words.specs.{Request}
 
 -- the name is that of none of these
 abbrev pub IsNoneOf : List ℕ → List (List ℕ × (List Row → Option Request)) → Type 0

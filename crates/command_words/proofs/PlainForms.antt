@@ -1,13 +1,10 @@
 -- Words in the plain form ask for what they say.
-use Rattle.std.proofs.Common.{◌≡◌, ◌∙◌, ℕ, List, [], ◌∷◌, ◌++◌, Option, Some, None, refl, ap, subst, sym, codes, option_map}
-use Rattle.std.specs.Prelude.{option_and_then}
+use Rattle.plan_base.proofs.Common.{◌≡◌, ◌∙◌, ℕ, List, [], ◌∷◌, ◌++◌, Option, Some, None, refl, ap, subst, sym, codes, option_map, option_and_then}
 use Rattle.clap.specs.Words.{Row, Text, first_of}
 use Rattle.service_days.specs.DaysMeaning.{DaysMeaning}
-use Rattle.region_file.specs.declared.format.Format.{Format}
-use Rattle.region_file.specs.declared.format.Format.TheVariants.{Binary}
-use Rattle.command_line.proofs.NameLemmas.{IsFoundAt, found_at, is_compile, is_migrate, is_contract, is_check, is_sample, is_answer, is_certify, is_verify, is_few, is_latest, is_certify_latest, is_verify_latest, is_profile, is_matrix, is_requests}
-use Rattle.command_line.proofs.PlainLemmas.{found, found_options, rows_of_two, rows_of_six, reads_one, reads_two, reads_four, reads_six, after_one, format_after_one, keep_after_one, after_two, hierarchy_after_two, places_after_two, limits_after_two, window_after_two, all_after_two}
-use Rattle.command_words.specs.Requests.{AsksFor, IsPlainForm, Request, compile, migrate, contract, answer, certify, verify, check, sample, latest, certify_latest, verify_latest, few, profile, matrix, requests, days_and_format, format_or, keep_or_none, limit_or_none, limits_at, limits_of, most_places, request_at, size_of_word, window_or_two_hours}
+use Rattle.region_file.specs.{Format, Binary}
+use Rattle.command_line.proofs.{NameLemmas.IsFoundAt, NameLemmas.found_at, NameLemmas.is_compile, NameLemmas.is_migrate, NameLemmas.is_contract, NameLemmas.is_check, NameLemmas.is_sample, NameLemmas.is_answer, NameLemmas.is_certify, NameLemmas.is_verify, NameLemmas.is_few, NameLemmas.is_latest, NameLemmas.is_certify_latest, NameLemmas.is_verify_latest, NameLemmas.is_profile, NameLemmas.is_matrix, NameLemmas.is_requests, PlainLemmas.found, PlainLemmas.found_options, PlainLemmas.rows_of_two, PlainLemmas.rows_of_six, PlainLemmas.reads_one, PlainLemmas.reads_two, PlainLemmas.reads_four, PlainLemmas.reads_six, PlainLemmas.after_one, PlainLemmas.format_after_one, PlainLemmas.keep_after_one, PlainLemmas.after_two, PlainLemmas.hierarchy_after_two, PlainLemmas.places_after_two, PlainLemmas.limits_after_two, PlainLemmas.window_after_two, PlainLemmas.all_after_two}
+use Rattle.command_words.specs.{AsksFor, IsPlainForm, Request, compile, migrate, contract, answer, certify, verify, check, sample, latest, certify_latest, verify_latest, few, profile, matrix, requests, days_and_format, format_or, keep_or_none, limit_or_none, limits_at, limits_of, most_places, request_at, size_of_word, window_or_two_hours}
 
 asks_for : (words : List Text) (program name : Text) (given : List Text) (rows : List Row) (r : Request) → words ≡ program ∷ name ∷ given
     → IsFoundAt (program ∷ name ∷ given) name rows → request_at name rows ≡ Some r → AsksFor words r

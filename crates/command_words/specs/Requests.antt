@@ -1,18 +1,12 @@
 -- What a command line asks for, and which words ask for it.
-use Rattle.std.specs.Prelude.{◌≡◌, ℕ, ◌+◌, ◌*◌, ◌^◌, ◌==◌, ◌&&◌, nat_eq, nat_le, List, [], ◌∷◌, length, codes, find, Option, Some, None, option_and_then, option_map, if◌then◌else◌}
+use Rattle.std.specs.Prelude.{◌≡◌, ℕ, ◌+◌, ◌*◌, ◌^◌, ◌==◌, ◌&&◌, nat_eq, nat_le, List, [], ◌∷◌, length, codes, find, Option, Some, None, option_and_then, option_map, if◌then◌else◌, bytes_eq}
 use Rattle.std.specs.Result.{result_ok}
-use Rattle.std.specs.Str.{bytes_eq}
 use Rattle.clap.specs.Words.{Row, fault_of, first_of, subcommand_of}
-use Rattle.plain_texts.specs.FixedDecimal.{fixed_at}
-use Rattle.plain_texts.specs.Numbers.{number_at}
-use Rattle.service_days.specs.DaysMeaning.{DaysMeaning}
-use Rattle.service_days.specs.ReadClock.{below_sixty}
-use Rattle.service_days.specs.Zones.{days_made}
-use Rattle.region_file.specs.declared.format.Format.{Format}
-use Rattle.region_file.specs.declared.format.Format.TheVariants.{Text, Binary}
-use Rattle.command_line.specs.Description.{modeplan}
-use Rattle.command_line.specs.PlainWords.{IsInForm}
-use Rattle.command_words.specs.declared.command.Command.{Command}
+use Rattle.plain_texts.specs.{fixed_at, number_at}
+use Rattle.service_days.specs.{DaysMeaning.DaysMeaning, below_sixty, days_made}
+use Rattle.region_file.specs.{Format, Text, Binary}
+use Rattle.command_line.specs.{modeplan, IsInForm}
+pub use Rattle.command_words.specs.declared.command.Command.{Command}
 use Rattle.command_words.specs.declared.command.Command.TheVariants as command
 
 -- a command with what it works on: the names of files, query lines, days, formats and numbers

@@ -1,29 +1,14 @@
 -- A region whose map and feed are there and without fault is compiled, step by step.
-use Rattle.std.proofs.Common.{◌≡◌, ℕ, ◌<◌, ◌∙◌, inl, inr, List, [], ◌∷◌, ◌++◌, Bool, true, false, Option, Some, None, Ok, refl, ap, sym, subst}
-use Rattle.std.specs.Prelude.{Result, IfSome, IsSomeAnd, length}
-use Rattle.plan_base.specs.Counts.{Rose}
-use Rattle.plan_base.specs.Shelves.{ShelfMeaning, Told}
-use Rattle.plan_base.specs.declared.limits.Caps.{Caps}
+use Rattle.plan_base.proofs.Common.{◌≡◌, ℕ, ◌<◌, ◌∙◌, inl, inr, List, [], ◌∷◌, ◌++◌, Bool, true, false, Option, Some, None, Ok, refl, ap, sym, subst, Result, IfSome, IsSomeAnd, length}
+use Rattle.plan_base.specs.{Rose, ShelfMeaning, Told, Caps}
 use Rattle.service_days.specs.DaysMeaning.{DaysMeaning}
-use Rattle.opl_reader.specs.ObjectLists.{ObjectLists}
-use Rattle.opl_reader.specs.Objects.{objects_of}
-use Rattle.opl_reader.specs.declared.objects.OplFault.{OplFault}
-use Rattle.gtfs_tables.specs.declared.files.FeedFile.{FeedFile}
-use Rattle.gtfs_tables.specs.declared.faults.FeedFault.{FeedFault}
-use Rattle.gtfs_tables.specs.FeedLists.{FeedLists}
-use Rattle.gtfs_tables.specs.Feeds.{feed_of}
+use Rattle.opl_reader.specs.{ObjectLists.ObjectLists, objects_of, OplFault}
+use Rattle.gtfs_tables.specs.{FeedFile, FeedFault, feed_of, FeedLists.FeedLists}
 use Rattle.mode_network.specs.NetworkLists.{NetworkLists}
 use Rattle.run_steps.specs.declared.outcome.FileRole.TheVariants as role
-use Rattle.run_steps.specs.declared.outcome.Outcome.{Outcome}
-use Rattle.run_steps.specs.declared.outcome.Outcome.TheVariants.{Done, Usage, Missing, ReadFault, TooLong, WriteFault, BadRegion, BadFeed, Invalid, BadCertificate, BadHierarchy, Unsound, OutOfMemory}
-use Rattle.run_steps.specs.Scene.{with_shelf}
-use Rattle.run_steps.specs.Sayings.{Saying, IsUnread, IsUnreadable, most_bytes}
-use Rattle.run_steps.specs.Complete.{Files, IsHeld, IsDoneOrMemory, Completes}
+use Rattle.run_steps.specs.{Outcome, Done, Usage, Missing, ReadFault, TooLong, WriteFault, BadRegion, BadFeed, Invalid, BadCertificate, BadHierarchy, Unsound, OutOfMemory, with_shelf, Saying, IsUnread, IsUnreadable, most_bytes, Files, IsHeld, IsDoneOrMemory, Completes}
 use Rattle.run_steps.proofs.CompleteSteps.{file_completes, quiet_later, told_held, unread}
-use Rattle.compile_commands.specs.Maps.{BeginsSo, OnObjects, OnMap}
-use Rattle.compile_commands.specs.Feeds.{AreTables, IsFileOfFeed, IsTableUnread, OnLists, OnFeed, feed_files_of, in_order, may_be_absent, path_of}
-use Rattle.compile_commands.specs.Builds.{OnBuild}
-use Rattle.compile_commands.specs.Complete.{AreTablesHeld, GivesRegion, IsFeedHeld, IsTableHeld, SpellsObjects}
+use Rattle.compile_commands.specs.{BeginsSo, OnObjects, OnMap, AreTables, IsFileOfFeed, IsTableUnread, OnLists, OnFeed, feed_files_of, in_order, may_be_absent, path_of, OnBuild, AreTablesHeld, GivesRegion, IsFeedHeld, IsTableHeld, SpellsObjects}
 
 module _ (files : Files) where
   -- ---- maps

@@ -1,26 +1,12 @@
 -- The files of a feed that are read one after the other.
-use Rattle.std.proofs.Common.{◌≡◌, ℕ, suc, get_or, ◌+◌, ◌<◌, ◌∙◌, List, [], ◌∷◌, ◌++◌, take, drop, length, Bool, true, false, Option, Some, None, Err, refl, ap, sym, subst}
-use Rattle.std.specs.Prelude.{is_some, option_map}
-use Rattle.std.specs.Borrow.{Bor}
-use Rattle.plan_base.specs.Shelves.{ShelfMeaning, IsLater}
-use Rattle.plan_base.specs.declared.limits.Caps.{Caps}
-use Rattle.gtfs_tables.specs.declared.files.FeedFile.{FeedFile}
-use Rattle.gtfs_tables.specs.declared.files.FeedFiles.{FeedFiles}
-use Rattle.gtfs_tables.specs.declared.faults.FeedFault.{FeedFault}
-use Rattle.gtfs_tables.specs.declared.faults.FeedFault.TheVariants.{MissingFile}
-use Rattle.gtfs_tables.specs.Answers.{◌>>=◌, faultless}
-use Rattle.gtfs_tables.specs.FeedLists.{bytes_of}
-use Rattle.gtfs_tables.specs.Feeds.{feed_of, missing_file, tables_of, required, first_absent}
-use Rattle.run_steps.specs.declared.outcome.FileRole.TheVariants.{Feed}
-use Rattle.run_steps.specs.declared.outcome.Outcome.{Outcome}
-use Rattle.run_steps.specs.declared.outcome.Outcome.TheVariants.{Done, Usage, Missing, ReadFault, TooLong, WriteFault, BadRegion, BadFeed, Invalid, BadCertificate, BadHierarchy, Unsound, OutOfMemory}
+use Rattle.plan_base.proofs.Common.{◌≡◌, ℕ, suc, get_or, ◌+◌, ◌<◌, ◌∙◌, List, [], ◌∷◌, ◌++◌, take, drop, length, Bool, true, false, Option, Some, None, Err, refl, ap, sym, subst, is_some, option_map, Bor, drop-cons, take-append-drop, take_more}
+use Rattle.plan_base.specs.{ShelfMeaning, IsLater, Caps}
+use Rattle.gtfs_tables.specs.{FeedFile, FeedFiles, FeedFault, MissingFile, ◌>>=◌, faultless, bytes_of, feed_of, missing_file, tables_of, required, first_absent}
+use Rattle.run_steps.specs.{declared.outcome.FileRole.TheVariants.Feed, Outcome, Done, Usage, Missing, ReadFault, TooLong, WriteFault, BadRegion, BadFeed, Invalid, BadCertificate, BadHierarchy, Unsound, OutOfMemory}
 use Rattle.run_steps.specs.declared.outcome.SourceFault.TheVariants as source
 use Rattle.gtfs_tables.specs.declared.files.FeedFile.TheVariants as file
-use Rattle.std.proofs.Math.Seq.{drop-cons}
-use Rattle.std.proofs.lemmas.List.{take-append-drop, take_more}
-use Rattle.compile_commands.specs.inside.Working.{IsFeedOutcome, IsListsOutcome}
+use Rattle.compile_commands.specs.{inside.IsFeedOutcome, inside.IsListsOutcome, AreTables, IsFeedUnread, IsFileOfFeed, IsTableUnread, in_order, lent, may_be_absent, path_of}
 use Rattle.run_steps.proofs.Steps.{told_before, unread_before, unreadable_before}
-use Rattle.compile_commands.specs.Feeds.{AreTables, IsFeedUnread, IsFileOfFeed, IsTableUnread, in_order, lent, may_be_absent, path_of}
 
 -- a table more
 pub tables_more : (shelf : ShelfMeaning) (folder : List ℕ) (tables : List FeedFile) (texts : List (Option (List ℕ))) (table : FeedFile) (text : Option (List ℕ))

@@ -1,19 +1,12 @@
 -- A map that is read piece by piece.
-use Rattle.std.proofs.Common.{◌≡◌, ℕ, ◌+◌, ◌≤◌, ◌<◌, ◌∙◌, inl, inr, List, [], ◌++◌, take, drop, length, Option, Some, None, refl, ap, sym, subst, arith, length-append, length-take-le}
-use Rattle.std.specs.Prelude.{IfSome, IsSomeAnd}
-use Rattle.std.proofs.lemmas.List.{take-append-drop, take_all}
-use Rattle.plan_base.specs.Shelves.{ShelfMeaning, IsLater, Told, Gave, AreBytesAt, HasRead}
-use Rattle.plan_base.specs.declared.limits.Caps.{Caps}
+use Rattle.plan_base.proofs.Common.{◌≡◌, ℕ, ◌+◌, ◌≤◌, ◌<◌, ◌∙◌, inl, inr, List, [], ◌++◌, take, drop, length, Option, Some, None, refl, ap, sym, subst, arith, length-append, length-take-le, IfSome, IsSomeAnd, take-append-drop, take_all}
+use Rattle.plan_base.specs.{ShelfMeaning, IsLater, Told, Gave, AreBytesAt, HasRead, Caps}
 use Rattle.plan_base.proofs.MoreRead.{IsFrontOf, read_more}
-use Rattle.opl_reader.specs.Readers.{OplState}
-use Rattle.opl_reader.specs.Readings.{HasTaken}
+use Rattle.opl_reader.specs.{OplState, HasTaken}
 use Rattle.run_steps.specs.declared.outcome.FileRole.TheVariants as role
-use Rattle.run_steps.specs.declared.outcome.Outcome.{Outcome}
-use Rattle.run_steps.specs.declared.outcome.Outcome.TheVariants.{Done, Usage, Missing, ReadFault, TooLong, WriteFault, BadRegion, BadFeed, Invalid, BadCertificate, BadHierarchy, Unsound, OutOfMemory}
+use Rattle.run_steps.specs.{Outcome, Done, Usage, Missing, ReadFault, TooLong, WriteFault, BadRegion, BadFeed, Invalid, BadCertificate, BadHierarchy, Unsound, OutOfMemory, most_bytes}
 use Rattle.run_steps.specs.declared.outcome.SourceFault.TheVariants as source
-use Rattle.run_steps.specs.Sayings.{most_bytes}
-use Rattle.compile_commands.specs.Maps.{BeginsSo}
-use Rattle.compile_commands.specs.inside.Working.{HasFed, IsEndOutcome, IsMapOutcome, IsPieceRefusal}
+use Rattle.compile_commands.specs.{BeginsSo, inside.HasFed, inside.IsEndOutcome, inside.IsMapOutcome, inside.IsPieceRefusal}
 
 -- nothing is a front of any file
 front_nothing : (held : Option (List ℕ)) → IsFrontOf [] held

@@ -1,6 +1,5 @@
 -- What holds of an answer, whichever it is.
-use Rattle.std.proofs.Common.{Ok, Err}
-use Rattle.std.specs.Prelude.{Result, IfOk, IfErr}
+use Rattle.plan_base.proofs.Common.{Ok, Err, Result, IfOk, IfErr}
 
 pub ok_more : {A E : Type 0} {P Q : A → Type 0} (r : Result A E) → ((a : A) → P a → Q a) → IfOk r P → IfOk r Q
 ok_more (Ok a) more h = more a h

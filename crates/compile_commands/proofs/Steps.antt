@@ -1,25 +1,14 @@
 -- What the steps of compiling answer, put together to what the run says.
-use Rattle.std.proofs.Common.{ℕ, inl, inr, List, refl, sym, subst}
-use Rattle.std.specs.Prelude.{Result}
-use Rattle.plan_base.specs.Shelves.{ShelfMeaning, IsLater}
-use Rattle.plan_base.specs.Sinks.{SinkMeaning, Stays}
-use Rattle.plan_base.specs.declared.limits.Caps.{Caps}
+use Rattle.plan_base.proofs.Common.{ℕ, inl, inr, List, refl, sym, subst, Result}
+use Rattle.plan_base.specs.{ShelfMeaning, IsLater, SinkMeaning, Stays, Caps}
 use Rattle.service_days.specs.DaysMeaning.{DaysMeaning}
-use Rattle.opl_reader.specs.ObjectLists.{ObjectLists}
-use Rattle.opl_reader.specs.declared.objects.OplFault.{OplFault}
-use Rattle.gtfs_tables.specs.FeedLists.{FeedLists}
-use Rattle.gtfs_tables.specs.declared.faults.FeedFault.{FeedFault}
+use Rattle.opl_reader.specs.{ObjectLists.ObjectLists, OplFault}
+use Rattle.gtfs_tables.specs.{FeedLists.FeedLists, FeedFault}
 use Rattle.mode_network.specs.NetworkLists.{NetworkLists}
-use Rattle.run_steps.specs.declared.outcome.Outcome.{Outcome}
-use Rattle.run_steps.specs.declared.outcome.Outcome.TheVariants.{Done, Usage, Missing, ReadFault, TooLong, WriteFault, BadRegion, BadFeed, Invalid, BadCertificate, BadHierarchy, Unsound, OutOfMemory}
+use Rattle.run_steps.specs.{Outcome, Done, Usage, Missing, ReadFault, TooLong, WriteFault, BadRegion, BadFeed, Invalid, BadCertificate, BadHierarchy, Unsound, OutOfMemory, scene, Saying}
 use Rattle.run_steps.specs.declared.outcome.SourceFault.TheVariants as source
-use Rattle.run_steps.specs.Scene.{scene}
-use Rattle.run_steps.specs.Sayings.{Saying}
 use Rattle.run_steps.proofs.Steps.{not_earlier}
-use Rattle.compile_commands.specs.Maps.{OnObjects, OnMap}
-use Rattle.compile_commands.specs.Feeds.{OnLists, OnFeed}
-use Rattle.compile_commands.specs.Builds.{OnBuild}
-use Rattle.compile_commands.specs.inside.Working.{HasMap, HasFeed, IsMapOutcome, IsFeedOutcome, IsBuildOutcome}
+use Rattle.compile_commands.specs.{OnObjects, OnMap, OnLists, OnFeed, OnBuild, inside.HasMap, inside.HasFeed, inside.IsMapOutcome, inside.IsFeedOutcome, inside.IsBuildOutcome}
 
 module _ (caps : Caps) (old mid new : ShelfMeaning) (before after : SinkMeaning) (name : List ℕ) where
   -- the map was not read

@@ -1,15 +1,13 @@
 -- What a run says that builds the region of a map and a feed.
 use Rattle.std.specs.Prelude.{◌⊎◌}
-use Rattle.plan_base.specs.declared.limits.Caps.{Caps}
+use Rattle.plan_base.specs.{Caps}
 use Rattle.service_days.specs.DaysMeaning.{DaysMeaning}
 use Rattle.opl_reader.specs.ObjectLists.{ObjectLists}
 use Rattle.gtfs_tables.specs.FeedLists.{FeedLists}
 use Rattle.mode_network.specs.NetworkLists.{NetworkLists}
-use Rattle.region_build.specs.Answers.{HasFault, IsCompiled}
-use Rattle.region_build.specs.declared.faults.BuildFault.{BuildFault}
-use Rattle.run_steps.specs.declared.outcome.Outcome.TheVariants.{BadFeed, OutOfMemory}
+use Rattle.region_build.specs.{HasFault, IsCompiled, BuildFault}
+use Rattle.run_steps.specs.{BadFeed, OutOfMemory, Saying, Ends}
 use Rattle.run_steps.specs.declared.outcome.SourceFault.TheVariants as source
-use Rattle.run_steps.specs.Sayings.{Saying, Ends}
 
 -- what a map and a feed give over some days: a network, or their first fault; or memory runs out before it is known
 abbrev pub OnBuild : Caps → ObjectLists → FeedLists → DaysMeaning → (NetworkLists → Saying) → Saying

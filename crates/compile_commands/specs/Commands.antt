@@ -1,14 +1,10 @@
 -- What the commands `compile` and `migrate` say of a run by its outcome.
 use Rattle.std.specs.Prelude.{ℕ, List}
-use Rattle.plan_base.specs.declared.limits.Caps.{Caps}
+use Rattle.plan_base.specs.{Caps}
 use Rattle.service_days.specs.DaysMeaning.{DaysMeaning}
-use Rattle.region_file.specs.declared.format.Format.{Format}
-use Rattle.run_steps.specs.Regions.{OnRegion}
-use Rattle.run_steps.specs.Sayings.{Saying, WritesText}
-use Rattle.compile_commands.specs.Maps.{OnMap}
-use Rattle.compile_commands.specs.Feeds.{OnFeed}
-use Rattle.compile_commands.specs.Builds.{OnBuild}
-use Rattle.compile_commands.specs.Outputs.{IsRegionFile}
+use Rattle.region_file.specs.{Format}
+use Rattle.run_steps.specs.{OnRegion, Saying, WritesText}
+use Rattle.compile_commands.specs.{Maps.OnMap, Feeds.OnFeed, Builds.OnBuild, Outputs.IsRegionFile}
 
 -- `compile` writes the region of a map and a feed over some days, in a format
 abbrev pub SaysCompile : Caps → List ℕ → List ℕ → DaysMeaning → Format → Saying

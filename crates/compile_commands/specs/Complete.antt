@@ -1,16 +1,11 @@
 -- What can be compiled: the files of a map and a feed that are there and without fault, and whose region is.
 use Rattle.std.specs.Prelude.{◌≡◌, ◌≤◌, ℕ, List, [], ◌∷◌, length, true, Option, Some, None, Ok}
-use Rattle.plan_base.specs.declared.limits.Caps.{Caps}
+use Rattle.plan_base.specs.{Caps}
 use Rattle.service_days.specs.DaysMeaning.{DaysMeaning}
-use Rattle.opl_reader.specs.ObjectLists.{ObjectLists}
-use Rattle.opl_reader.specs.Objects.{objects_of}
-use Rattle.gtfs_tables.specs.declared.files.FeedFile.{FeedFile}
-use Rattle.gtfs_tables.specs.FeedLists.{FeedLists}
-use Rattle.gtfs_tables.specs.Feeds.{feed_of}
-use Rattle.region_build.specs.Answers.{HasFault}
-use Rattle.region_build.specs.declared.faults.BuildFault.{BuildFault}
-use Rattle.run_steps.specs.Complete.{Files}
-use Rattle.run_steps.specs.Sayings.{most_bytes}
+use Rattle.opl_reader.specs.{ObjectLists.ObjectLists, objects_of}
+use Rattle.gtfs_tables.specs.{FeedFile, feed_of, FeedLists.FeedLists}
+use Rattle.region_build.specs.{HasFault, BuildFault}
+use Rattle.run_steps.specs.{Files, most_bytes}
 use Rattle.compile_commands.specs.Feeds.{feed_files_of, in_order, may_be_absent, path_of}
 
 -- the bytes spell a map's objects that have P

@@ -1,22 +1,11 @@
 -- What a run says that reads the files of a timetable feed.
 use Rattle.std.specs.Prelude.{◌≡◌, ℕ, ◌⊎◌, ⊤, Bool, true, false, List, [], ◌∷◌, ◌++◌, codes, Option, Some, None, option_map, slice_get, unwrap_or, Result, Ok, Err}
 use Rattle.std.specs.Borrow.{Bor}
-use Rattle.plan_base.specs.Shelves.{ShelfMeaning, IsLater, HasRead, Told}
-use Rattle.plan_base.specs.Sinks.{Stays}
-use Rattle.plan_base.specs.declared.limits.Caps.{Caps}
-use Rattle.gtfs_tables.specs.declared.files.FeedFile.{FeedFile}
+use Rattle.plan_base.specs.{ShelfMeaning, IsLater, HasRead, Told, Stays, Caps}
+use Rattle.gtfs_tables.specs.{FeedFile, FeedFiles, FeedFault, feed_of, file_name, FeedLists.FeedLists}
 use Rattle.gtfs_tables.specs.declared.files.FeedFile.TheVariants as file
-use Rattle.gtfs_tables.specs.declared.files.FeedFiles.{FeedFiles}
-use Rattle.gtfs_tables.specs.declared.faults.FeedFault.{FeedFault}
-use Rattle.gtfs_tables.specs.FeedLists.{FeedLists}
-use Rattle.gtfs_tables.specs.Feeds.{feed_of}
-use Rattle.gtfs_tables.specs.Files.{file_name}
-use Rattle.run_steps.specs.declared.outcome.FileRole.TheVariants.{Feed}
-use Rattle.run_steps.specs.declared.outcome.Outcome.{Outcome}
-use Rattle.run_steps.specs.declared.outcome.Outcome.TheVariants.{BadFeed}
+use Rattle.run_steps.specs.{declared.outcome.FileRole.TheVariants.Feed, Outcome, BadFeed, with_shelf, Saying, Ends, IsUnread, IsUnreadable, most_bytes, Scene.Scene}
 use Rattle.run_steps.specs.declared.outcome.SourceFault.TheVariants as source
-use Rattle.run_steps.specs.Scene.{Scene, with_shelf}
-use Rattle.run_steps.specs.Sayings.{Saying, Ends, IsUnread, IsUnreadable, most_bytes}
 
 -- the files of a feed in the order in which they are read
 abbrev pub in_order : List FeedFile

@@ -1,15 +1,10 @@
 -- What a run says that reads a map.
 use Rattle.std.specs.Prelude.{◌≡◌, List, ℕ, ◌⊎◌, ◌++◌, IsSomeAnd, Result, Ok, Err}
-use Rattle.plan_base.specs.Shelves.{ShelfMeaning, Told}
-use Rattle.plan_base.specs.declared.limits.Caps.{Caps}
-use Rattle.opl_reader.specs.ObjectLists.{ObjectLists}
-use Rattle.opl_reader.specs.Objects.{objects_of}
-use Rattle.opl_reader.specs.Readings.{IsEndedFault}
-use Rattle.opl_reader.specs.declared.objects.OplFault.{OplFault}
+use Rattle.plan_base.specs.{ShelfMeaning, Told, Caps}
+use Rattle.opl_reader.specs.{ObjectLists.ObjectLists, objects_of, IsEndedFault, OplFault}
 use Rattle.run_steps.specs.declared.outcome.FileRole.TheVariants as role
-use Rattle.run_steps.specs.declared.outcome.Outcome.TheVariants.{BadFeed}
+use Rattle.run_steps.specs.{BadFeed, Saying, Ends, OnFile}
 use Rattle.run_steps.specs.declared.outcome.SourceFault.TheVariants as source
-use Rattle.run_steps.specs.Sayings.{Saying, Ends, OnFile}
 
 -- the file begins with these bytes
 abbrev pub BeginsSo : List ℕ → List ℕ → Type 0

@@ -1,10 +1,9 @@
 //! Reading the files of a timetable feed.
 
-ghost use Rattle.std.specs.Prelude.{◌≡◌, ◌++◌, List, map, codes, IfErr, IfOk, Ok, option_map, string_bytes};
+ghost use Rattle.std.specs.Prelude.{◌≡◌, List, map, IfErr, IfOk, Ok, option_map, string_bytes};
 ghost use Rattle.plan_base.specs.Shelves.{IsLater};
 ghost use Rattle.plan_base.specs.declared.limits.Caps as c;
 ghost use Rattle.gtfs_tables.specs.Feeds.{feed_of};
-ghost use Rattle.gtfs_tables.specs.Files.{file_name};
 ghost use Rattle.gtfs_tables.specs.Sound.{IsFeed};
 ghost use Rattle.compile_commands.specs.Feeds.{AreTables, IsFeedUnread, IsFileOfFeed, IsTableUnread, feed_files_of, may_be_absent, order_of_file, path_of, text_of};
 ghost use Rattle.compile_commands.specs.inside.Working.{HasFeed, IsFeedOutcome, IsListsOutcome};

@@ -1,30 +1,12 @@
 -- Before any contraction each road arc is an entry.
-use Rattle.std.proofs.Common.{◌≡◌, ℕ, ◌+◌, ◌<◌, ◌≤◌, ◌^◌, inl, inr, true, not, nat_eq, List, [], ◌∙◌, length, take, get_or, Some, None, refl, sym, ap, subst, arith}
-use Rattle.std.specs.Prelude.{Option, All, Vec, slice_get}
-use Rattle.std.specs.declared.alloc.Global.{Global}
-use Rattle.std.proofs.lemmas.Bool.{and_parts, eqb-false, not-true}
-use Rattle.std.proofs.lemmas.Bool.Decides.{nat_tests}
-use Rattle.std.proofs.lemmas.List.{length-take, get_or-take, take_all, get_or_default}
-use Rattle.std.proofs.lemmas.List.Elements.{All-contains, Contains-get_or, All-more}
-use Rattle.std.specs.declared.cmp.Ordering.TheVariants.{Less}
-use Rattle.mode_network.specs.declared.nodes.Arc.{Arc}
-use Rattle.plan_base.specs.declared.modes.Mode.{Mode}
-use Rattle.mode_network.specs.NetworkLists.{NetworkLists, mode_at}
-use Rattle.mode_network.specs.NetworkLists.{nodes_of as network_nodes}
-use Rattle.mode_network.specs.Journeys.{Leads}
-use Rattle.mode_network.specs.Rules.{IsNetwork, joins_modes, is_same_mode, arc_cmp}
+use Rattle.plan_base.proofs.Common.{◌≡◌, ℕ, ◌+◌, ◌<◌, ◌≤◌, ◌^◌, inl, inr, true, not, nat_eq, List, [], ◌∙◌, length, take, get_or, Some, None, refl, sym, ap, subst, arith, Option, All, and_parts, eqb-false, not-true, nat_tests, length-take, get_or-take, take_all, get_or_default, All-contains, Contains-get_or, All-more, Less}
+use Rattle.mode_network.specs.{Arc, mode_at, Leads, IsNetwork, joins_modes, is_same_mode, arc_cmp, NetworkLists.NetworkLists}
+use Rattle.plan_base.specs.{Mode}
 use Rattle.mode_network.proofs.RuleLemmas.{arcs_in_range, nodes_hold_roads, same_mode_is}
-use Rattle.search_laws.specs.Firsts.{HoldsBelow}
-use Rattle.hierarchy.specs.declared.entry.Entry.{Entry}
-use Rattle.hierarchy.specs.Soundness.{HasEntry, FitsLayer, MayStandAt, NodeIsBridged, IsMade, IsMadeBy}
-use Rattle.witness.specs.declared.edge.Edge.{Edge}
-use Rattle.witness.specs.Rows.{row_at, items_of}
-use Rattle.contractor.specs.declared.layer.Layer.{Layer}
-use Rattle.contractor.specs.inside.Partway.{IsPut}
-use Rattle.contractor.specs.inside.Layers.{IsLayer, IsState, AreArcs, AreEmptyLists, IsEntryPlaced, FitsRows, AreWalks, into_at, nodes_in, lists_of}
-use Rattle.contractor.proofs.ListLemmas.{contains_place}
-use Rattle.contractor.proofs.PutLemmas.{put_is, put_layer}
-use Rattle.contractor.proofs.SimpleLemmas.{road}
+use Rattle.search_laws.specs.{HoldsBelow}
+use Rattle.hierarchy.specs.{Entry, HasEntry, FitsLayer, MayStandAt, NodeIsBridged, IsMade, IsMadeBy}
+use Rattle.contractor.specs.{declared.layer.Layer.Layer, inside.IsPut, inside.IsLayer, inside.IsState, inside.AreArcs, inside.IsEntryPlaced, inside.FitsRows, inside.AreWalks, inside.lists_of}
+use Rattle.contractor.proofs.{PutLemmas.put_is, PutLemmas.put_layer, SimpleLemmas.road}
 
 abbrev entry_of : Arc → Entry
 entry_of arc = record { from = arc.from; to = arc.to; weight = arc.ms; via = None }
@@ -46,18 +28,6 @@ arc_fits n arc joins w via light = by_modes (mode_at n.roads arc.from) (mode_at 
     }
     by_modes (Some a) None from to same = cc
     by_modes None b from to same = cc
-
-empty_row : (nodes : ℕ) (rows : List (Vec Edge Global)) → AreEmptyLists nodes rows → (u : ℕ) → row_at rows u ≡ []
-empty_row nodes rows are u = by_get (slice_get rows u) refl where
-  by_get : (o : Option (Vec Edge Global)) → slice_get rows u ≡ o → items_of o ≡ []
-  by_get None at = refl
-  by_get (Some row) at = All-contains (λ (r : Vec Edge Global). r.items ≡ []) rows row are.empty (contains_place rows u row at)
-
-empty_list : (nodes : ℕ) (lists : List (Vec ℕ Global)) → AreEmptyLists nodes lists → (u : ℕ) → into_at lists u ≡ []
-empty_list nodes lists are u = by_get (slice_get lists u) refl where
-  by_get : (o : Option (Vec ℕ Global)) → slice_get lists u ≡ o → nodes_in o ≡ []
-  by_get None at = refl
-  by_get (Some list) at = All-contains (λ (r : Vec ℕ Global). r.items ≡ []) lists list are.empty (contains_place lists u list at)
 
 -- the arc at a place of the list of all arcs
 pub arc_at : (n : NetworkLists) (items : List Arc) (k : ℕ) (d : Arc) → items ≡ n.arcs → k < length items → (k < length n.arcs) × ((e : Arc) → get_or n.arcs k e ≡ get_or items k d)

@@ -1,34 +1,11 @@
 -- One contraction over what contraction keeps.
-use Rattle.std.proofs.Common.{◌≡◌, ◌≢◌, ℕ, suc, ◌+◌, ◌-◌, ◌<◌, ◌≤◌, ◌^◌, ◌⊎◌, inl, inr, List, [], ◌∷◌, ◌++◌, ◌∙◌, length, map, get_or, Some, refl, sym, ap, subst, arith}
-use Rattle.std.specs.Prelude.{All, AllPairs, Contains, Vec, slice_get}
-use Rattle.std.specs.declared.alloc.Global.{Global}
-use Rattle.std.proofs.lemmas.Bool.{cases_order}
-use Rattle.std.proofs.lemmas.List.{length_push}
-use Rattle.std.proofs.lemmas.List.Elements.{All-contains, All-push, All-cons, Contains-get_or}
-use Rattle.std.proofs.lemmas.List.Quantifiers.{all_pairs_push}
-use Rattle.mode_network.specs.NetworkLists.{NetworkLists}
-use Rattle.mode_network.specs.Rules.{IsNetwork}
-use Rattle.hierarchy.specs.declared.entry.Entry.{Entry}
-use Rattle.hierarchy.specs.Hops.{Hop, AreHops, total, nodes_along}
-use Rattle.hierarchy.specs.Lists.{HierarchyLists, WitnessLists, IsCore, IsContracted, first_of, last_of}
-use Rattle.hierarchy.specs.Rules.{FitsWitness}
-use Rattle.hierarchy.specs.Soundness.{HasEntry, HasLighter, IsSound, IsFree}
-use Rattle.hierarchy.proofs.HopLemmas.{hops_weaker}
-use Rattle.hierarchy.proofs.SoundLemmas.{fits}
-use Rattle.hierarchy.proofs.ContractionLemmas.{height_kept, height_next}
-use Rattle.witness.specs.declared.edge.Edge.{Edge}
-use Rattle.witness.specs.declared.workspace.Workspace.{Workspace}
-use Rattle.witness.specs.Rows.{row_at, HasEdge, AreEdgeRows, IsWalkWithin, NoWalkWithin}
-use Rattle.witness.specs.inside.Searching.{IsSearch, NobodyBusy}
-use Rattle.contractor.specs.declared.way.Way.{Way}
-use Rattle.contractor.specs.declared.layer.Layer.{Layer}
-use Rattle.contractor.specs.inside.Partway.{IsGood, IsLive, IsWayPast, AreWays, IsPartway, IsPut, shortcut_of, HaveOtherEnds, HaveOtherWays, IsTrueWeight}
-use Rattle.contractor.specs.inside.Layers.{IsLayer, StandsForEntry, FitsRows, CanPut, lists_of, lists_with, HaveOtherKeys, IsForWay, AreWalks, IsState, IsBridging, IsEndOf, IsSearchFor, HasWithin, IsInRows, AreFirst, AreSecond, AreWaysOf, into_at}
-use Rattle.contractor.specs.declared.way.Side.{Side}
-use Rattle.contractor.proofs.WayLemmas.{are_ways}
-use Rattle.contractor.proofs.ListLemmas.{place_of, contains_place}
-use Rattle.contractor.proofs.LiveLemmas.{core_more}
-use Rattle.contractor.proofs.StepLemmas.{light, by_shortcut, by_witness, partway_begins, partway_ends}
+use Rattle.plan_base.proofs.Common.{◌≡◌, ◌≢◌, ℕ, suc, ◌+◌, ◌-◌, ◌<◌, ◌≤◌, ◌^◌, ◌⊎◌, inl, inr, List, [], ◌∷◌, ◌++◌, ◌∙◌, length, map, get_or, Some, refl, sym, ap, subst, arith, All, AllPairs, Contains, Vec, slice_get, Global, cases_order, length_push, All-contains, All-push, All-cons, Contains-get_or, all_pairs_push}
+use Rattle.mode_network.specs.{NetworkLists.NetworkLists, IsNetwork}
+use Rattle.hierarchy.specs.{Entry, Hop, AreHops, total, nodes_along, HierarchyLists, WitnessLists, IsCore, IsContracted, first_of, last_of, FitsWitness, HasEntry, HasLighter, IsSound, IsFree}
+use Rattle.hierarchy.proofs.{HopLemmas.hops_weaker, SoundLemmas.fits, ContractionLemmas.height_kept, ContractionLemmas.height_next}
+use Rattle.witness.specs.{Edge, row_at, HasEdge, AreEdgeRows, IsWalkWithin, NoWalkWithin, declared.workspace.Workspace.Workspace, inside.IsSearch, inside.NobodyBusy}
+use Rattle.contractor.specs.{declared.way.Way.Way, declared.layer.Layer.Layer, inside.IsGood, inside.IsLive, inside.IsWayPast, inside.AreWays, inside.IsPartway, inside.IsPut, inside.shortcut_of, inside.HaveOtherEnds, inside.HaveOtherWays, inside.IsTrueWeight, inside.IsLayer, inside.StandsForEntry, inside.FitsRows, inside.CanPut, inside.lists_of, inside.lists_with, inside.HaveOtherKeys, inside.IsForWay, inside.AreWalks, inside.IsState, inside.IsBridging, inside.IsEndOf, inside.IsSearchFor, inside.HasWithin, inside.IsInRows, inside.AreFirst, inside.AreSecond, inside.AreWaysOf, inside.into_at, declared.way.Side.Side}
+use Rattle.contractor.proofs.{WayLemmas.are_ways, ListLemmas.place_of, ListLemmas.contains_place, LiveLemmas.core_more, StepLemmas.light, StepLemmas.by_shortcut, StepLemmas.by_witness, StepLemmas.partway_begins, StepLemmas.partway_ends}
 
 -- ---- rows and entries
 

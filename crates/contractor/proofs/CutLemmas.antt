@@ -1,22 +1,9 @@
 -- A node cut out of what is left.
-use Rattle.std.proofs.Common.{◌≡◌, ◌≢◌, ℕ, ◌+◌, ◌<◌, ◌≤◌, ◌^◌, inl, inr, Bool, true, not, nat_eq, List, [], ◌∷◌, ◌++◌, ◌∙◌, length, take, get_or, set, Some, refl, sym, ap, subst, arith}
-use Rattle.std.specs.Prelude.{All, AllPairs, Contains, Vec, filter, slice_get}
-use Rattle.std.specs.declared.alloc.Global.{Global}
-use Rattle.std.proofs.lemmas.Bool.{cases_eq, ne_eqb, eqb-false, not-true, not_from_false}
-use Rattle.std.proofs.lemmas.List.{length-set, take_more}
-use Rattle.std.proofs.lemmas.List.Elements.{All-contains, All-more, All-weaker, Contains-append_left, Contains-push, Contains-push_cases, Contains-get_or, All-contains_itself}
-use Rattle.hierarchy.specs.declared.entry.Entry.{Entry}
-use Rattle.hierarchy.specs.Lists.{IsCore}
-use Rattle.hierarchy.specs.Soundness.{HasEntry}
-use Rattle.witness.specs.declared.edge.Edge.{Edge}
-use Rattle.witness.specs.Rows.{row_at}
-use Rattle.contractor.specs.declared.way.Side.{Side}
-use Rattle.contractor.specs.declared.layer.Layer.{Layer}
-use Rattle.contractor.specs.inside.Layers.{IsLayer, IsCut, IsLessInto, AreSides, AreSidesOf, AreFirst, AreSecond, IsRowTaken, AreNodesTaken, FitsRows, into_at, side_of, edge_of}
-use Rattle.contractor.specs.inside.Partway.{HaveOtherEnds}
-use Rattle.contractor.proofs.ListLemmas.{filter_keeps, filter_was, take_more_cases, none_in, place_of, contains_place}
-use Rattle.contractor.proofs.RowLemmas.{row_set, row_kept, into_set, into_kept}
-use Rattle.contractor.proofs.LiveLemmas.{core_more, core_less}
+use Rattle.plan_base.proofs.Common.{◌≡◌, ◌≢◌, ℕ, ◌+◌, ◌<◌, ◌≤◌, ◌^◌, inl, inr, Bool, true, not, nat_eq, List, [], ◌∷◌, ◌++◌, ◌∙◌, length, take, get_or, set, Some, refl, sym, ap, subst, arith, All, AllPairs, Contains, Vec, filter, slice_get, Global, cases_eq, ne_eqb, eqb-false, not-true, not_from_false, length-set, take_more, All-contains, All-more, All-weaker, Contains-append_left, Contains-push, Contains-push_cases, Contains-get_or, All-contains_itself}
+use Rattle.hierarchy.specs.{Entry, IsCore, HasEntry}
+use Rattle.witness.specs.{Edge, row_at}
+use Rattle.contractor.specs.{declared.way.Side.Side, declared.layer.Layer.Layer, inside.IsLayer, inside.IsCut, inside.IsLessInto, inside.AreSides, inside.AreSidesOf, inside.AreFirst, inside.AreSecond, inside.IsRowTaken, inside.AreNodesTaken, inside.FitsRows, inside.into_at, inside.side_of, inside.edge_of, inside.HaveOtherEnds}
+use Rattle.contractor.proofs.{ListLemmas.filter_keeps, ListLemmas.filter_was, ListLemmas.take_more_cases, ListLemmas.none_in, ListLemmas.place_of, ListLemmas.contains_place, RowLemmas.row_set, RowLemmas.row_kept, RowLemmas.into_set, RowLemmas.into_kept, LiveLemmas.core_more, LiveLemmas.core_less}
 
 is_other : (a x : ℕ) → a ≢ x → not (nat_eq a x) ≡ true
 is_other a x differ = not_from_false (nat_eq a x) (ne_eqb a x differ)
@@ -139,9 +126,6 @@ sides_more rows x before i u sides new row lt at is of far = record {
 
 module _ (order : List ℕ) (x : ℕ) (old new : Layer) (layer : IsLayer order old) (core : IsCore order x) (rows : List (Vec Edge Global)) (into : List (Vec ℕ Global)) (before : List ℕ) (second : List Edge)
     (nodes : AreNodesTaken x old.into.items into before) (cut : IsCut x before old.rows.items rows) (taken : IsRowTaken x rows new.rows.items second) (less : IsLessInto x into new.into.items) (entries : new.entries.items ≡ old.entries.items) where
-  pub before_fit : All (λ u. u < length old.rows.items) before
-  before_fit k d low = layer.into_fit x (get_or before k d) (subst (λ us. Contains us (get_or before k d)) nodes.nodes_are (Contains-get_or before k d low))
-
   -- an entry as the rows list it
   entry_listed : (u : ℕ) (e : Edge) → Contains (row_at old.rows.items u) e → HasEntry old.entries.items u e.to e.weight × IsCore order u × IsCore order e.to
   entry_listed u e there =

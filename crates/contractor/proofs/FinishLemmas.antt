@@ -1,30 +1,13 @@
 -- The lists of a hierarchy in order.
-use Rattle.std.proofs.Common.{◌≡◌, ℕ, ◌+◌, ◌<◌, inl, inr, true, false, List, ◌∙◌, ap, length, get_or, Some, None, refl, sym, subst, arith, Ordering}
-use Rattle.std.specs.Prelude.{Option, All, AllPairs, Contains, IfSome, IsPermutation, IsSorted}
-use Rattle.std.specs.Cmp.{IsTotalOrder}
-use Rattle.std.proofs.lemmas.Cmp.{eq_by_cmp_equiv}
-use Rattle.std.specs.Ordering.{is_lt, is_eq, eq_by_cmp, ordering_reverse}
-use Rattle.std.specs.declared.cmp.Ordering.TheVariants.{Less, Equal, Greater}
-use Rattle.std.proofs.lemmas.Bool.{cases_Bool, false≢true}
-use Rattle.std.proofs.lemmas.Bool.Decides.{nat_tests}
-use Rattle.std.proofs.lemmas.List.Elements.{All-contains, Contains-get_or}
-use Rattle.std.proofs.lemmas.List.Sorted.{sorted_far, ranks_by, All-permutation, Contains-permutation, IsPermutation-sym}
-use Rattle.std.proofs.lemmas.Map.Keys.{IsDistinct-from_apart, IsDistinct-IsPermutation, apart_from_distinct}
-use Rattle.plan_base.specs.declared.modes.Mode.{Mode}
-use Rattle.mode_network.specs.NetworkLists.{NetworkLists, mode_at}
-use Rattle.mode_network.specs.Rules.{IsNetwork}
+use Rattle.plan_base.proofs.Common.{◌≡◌, ℕ, ◌+◌, ◌<◌, inl, inr, true, false, List, ◌∙◌, ap, length, get_or, Some, None, refl, sym, subst, arith, Option, All, AllPairs, Contains, IfSome, IsPermutation, IsSorted, IsTotalOrder, eq_by_cmp_equiv, is_lt, is_eq, eq_by_cmp, ordering_reverse, Less, Equal, Greater, cases_Bool, false≢true, nat_tests, All-contains, Contains-get_or, sorted_far, ranks_by, All-permutation, Contains-permutation, IsPermutation-sym, IsDistinct-IsPermutation, apart_from_distinct, Ordering}
+use Rattle.std.proofs.lemmas.Map.Keys.{IsDistinct-from_apart}
+use Rattle.plan_base.specs.{Mode}
+use Rattle.mode_network.specs.{NetworkLists.NetworkLists, mode_at, IsNetwork}
 use Rattle.mode_network.proofs.RuleLemmas.{mode_inside, nodes_hold_roads}
-use Rattle.search_laws.specs.Firsts.{HoldsBelow}
-use Rattle.hierarchy.specs.declared.entry.Entry.{Entry}
-use Rattle.hierarchy.specs.Hops.{AreHigh, total, nodes_along}
-use Rattle.hierarchy.specs.Lists.{HierarchyLists, WitnessLists, height_in, first_of, last_of}
-use Rattle.hierarchy.specs.Rules.{IsHierarchy, IsNode, FitsWitness, entry_cmp, witness_cmp}
-use Rattle.hierarchy.specs.Soundness.{HasEntry, IsBridged, FitsLayer, IsMade, IsMadeBy, NodeIsBridged, PairsAreBridged, PairIsBridged, MayStandAt, IsSound}
-use Rattle.hierarchy.proofs.HopLemmas.{hops_weaker}
-use Rattle.hierarchy.proofs.LookupLemmas.{entry_total, witness_total}
-use Rattle.contractor.specs.declared.layer.Layer.{Layer}
-use Rattle.contractor.specs.inside.Partway.{HaveOtherEnds, IsTrueWeight}
-use Rattle.contractor.specs.inside.Layers.{IsState, lists_of, HaveOtherKeys, IsFinished}
+use Rattle.search_laws.specs.{HoldsBelow}
+use Rattle.hierarchy.specs.{Entry, AreHigh, total, nodes_along, HierarchyLists, WitnessLists, height_in, first_of, last_of, IsHierarchy, IsNode, FitsWitness, entry_cmp, witness_cmp, HasEntry, IsBridged, FitsLayer, IsMade, IsMadeBy, NodeIsBridged, PairsAreBridged, PairIsBridged, MayStandAt, IsSound}
+use Rattle.hierarchy.proofs.{HopLemmas.hops_weaker, LookupLemmas.entry_total, LookupLemmas.witness_total}
+use Rattle.contractor.specs.{declared.layer.Layer.Layer, inside.HaveOtherEnds, inside.IsTrueWeight, inside.IsState, inside.lists_of, inside.HaveOtherKeys, inside.IsFinished}
 
 -- ---- soundness is of the elements, not of their order
 

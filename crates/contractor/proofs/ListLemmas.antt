@@ -1,10 +1,5 @@
 -- Filters and what is contained.
-use Rattle.std.proofs.Common.{◌≡◌, ◌≢◌, ℕ, ◌+◌, ◌<◌, ◌⊎◌, inl, inr, Bool, true, false, cond, List, [], ◌∷◌, ◌++◌, ◌∙◌, length, take, get_or, set, Some, refl, sym, ap, subst, arith}
-use Rattle.std.specs.Prelude.{Contains, filter, slice_get}
-use Rattle.std.proofs.lemmas.Bool.{false≢true, cases_eq}
-use Rattle.std.proofs.lemmas.Option.{slice_get-get_or, get_or_from_slice_get, slice_get_within, same_Some}
-use Rattle.std.proofs.lemmas.List.{take_more, length_push, get_or_append_left, get_or_push}
-use Rattle.std.proofs.lemmas.List.Elements.{Contains-push_cases}
+use Rattle.plan_base.proofs.Common.{◌≡◌, ◌≢◌, ℕ, ◌+◌, ◌<◌, ◌⊎◌, inl, inr, Bool, true, false, cond, List, [], ◌∷◌, ◌++◌, ◌∙◌, length, take, get_or, set, Some, refl, sym, ap, subst, arith, Contains, filter, slice_get, false≢true, cases_eq, slice_get-get_or, get_or_from_slice_get, slice_get_within, same_Some, take_more, length_push, get_or_append_left, get_or_push, Contains-push_cases}
 use Rattle.witness.proofs.ListLemmas.{contains_head, contains_tail, head_or_tail, slice_get-set_same, slice_get-set_other}
 
 pub none_in : {X : Type 0} (x : X) → Contains [] x → ⊥

@@ -1,15 +1,8 @@
 -- What is left after one node more.
-use Rattle.std.proofs.Common.{◌≡◌, ◌≢◌, ℕ, ◌<◌, ◌≤◌, ◌⊎◌, inl, inr, List, [], ◌∷◌, ◌++◌, ◌∙◌, length, refl, sym, ap, subst, arith}
-use Rattle.std.specs.Prelude.{All, Contains}
-use Rattle.std.proofs.lemmas.Bool.{cases_lt}
-use Rattle.std.proofs.lemmas.List.{length_push}
-use Rattle.std.proofs.lemmas.List.Elements.{All-contains}
-use Rattle.hierarchy.specs.Hops.{Hop, AreHops, AreHigh, total, nodes_along}
-use Rattle.hierarchy.specs.Lists.{HierarchyLists, height_in, IsCore}
-use Rattle.hierarchy.specs.Soundness.{HasEntry, HasLighter, IsBridged}
-use Rattle.hierarchy.proofs.HeightLemmas.{height_most}
-use Rattle.hierarchy.proofs.ContractionLemmas.{height_kept, height_next, height_other}
-use Rattle.contractor.specs.inside.Partway.{IsLive}
+use Rattle.plan_base.proofs.Common.{◌≡◌, ◌≢◌, ℕ, ◌<◌, ◌≤◌, inl, inr, List, [], ◌∷◌, ◌++◌, ◌∙◌, length, refl, sym, ap, subst, arith, All, Contains, cases_lt, length_push, All-contains}
+use Rattle.hierarchy.specs.{Hop, AreHops, AreHigh, total, nodes_along, HierarchyLists, height_in, IsCore, HasEntry, HasLighter, IsBridged}
+use Rattle.hierarchy.proofs.{HeightLemmas.height_most, ContractionLemmas.height_kept, ContractionLemmas.height_next, ContractionLemmas.height_other}
+use Rattle.contractor.specs.inside.{IsLive}
 
 -- a core node is contracted next: the others stay core
 pub core_more : (order : List ℕ) (x v : ℕ) → v ≢ x → IsCore order v → IsCore (order ++ x ∷ []) v

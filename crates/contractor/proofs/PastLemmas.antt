@@ -1,15 +1,9 @@
 -- Walks past a node, where the ways by it are bridged that stand before another.
-use Rattle.std.proofs.Common.{◌≡◌, ◌≢◌, ℕ, ◌+◌, ◌<◌, ◌≤◌, ◌⊎◌, inl, inr, List, [], ◌∷◌, ◌++◌, ◌∙◌, refl, sym, subst, arith}
-use Rattle.std.proofs.lemmas.Bool.{cases_lt, cases_eq}
-use Rattle.mode_network.specs.NetworkLists.{NetworkLists}
-use Rattle.mode_network.specs.Journeys.{Leads}
-use Rattle.hierarchy.specs.Hops.{Hop, AreHops, AreAll, total}
-use Rattle.hierarchy.specs.Lists.{HierarchyLists, IsCore}
-use Rattle.hierarchy.specs.Soundness.{HasEntry, HasLighter, IsSound}
-use Rattle.hierarchy.proofs.HopLemmas.{hops_then, total-append}
-use Rattle.hierarchy.proofs.SoundLemmas.{fits}
-use Rattle.hierarchy.proofs.DistanceLemmas.{core_walk}
-use Rattle.contractor.specs.inside.Partway.{IsLive}
+use Rattle.plan_base.proofs.Common.{◌≡◌, ◌≢◌, ℕ, ◌+◌, ◌<◌, ◌≤◌, ◌⊎◌, inl, inr, List, [], ◌∷◌, ◌++◌, ◌∙◌, refl, sym, subst, arith, cases_lt, cases_eq}
+use Rattle.mode_network.specs.{NetworkLists.NetworkLists, Leads}
+use Rattle.hierarchy.specs.{Hop, AreHops, AreAll, total, HierarchyLists, IsCore, HasEntry, HasLighter, IsSound}
+use Rattle.hierarchy.proofs.{HopLemmas.hops_then, HopLemmas.total-append, SoundLemmas.fits, DistanceLemmas.core_walk}
+use Rattle.contractor.specs.inside.{IsLive}
 use Rattle.contractor.proofs.LiveLemmas.{HasLiveWalk, core_more}
 
 module _ (n : NetworkLists) (h : HierarchyLists) (x : ℕ) (h2 : HierarchyLists) (sound : IsSound n h) (order : h2.order ≡ h.order ++ x ∷ []) (lighter : (u v w : ℕ) → HasEntry h.entries u v w → HasLighter h2.entries u v w) where

@@ -1,18 +1,8 @@
 -- An entry put in.
-use Rattle.std.proofs.Common.{◌≡◌, ◌≢◌, ℕ, ◌<◌, ◌≤◌, ◌^◌, ◌⊎◌, inl, inr, Bool, not, nat_eq, List, [], ◌∷◌, ◌∙◌, length, get_or, Some, refl, sym, ap, subst, arith}
-use Rattle.std.specs.Prelude.{Contains, Vec, filter, slice_get}
-use Rattle.std.specs.declared.alloc.Global.{Global}
-use Rattle.std.proofs.lemmas.Bool.{cases_eq, cases_order, ne_eqb, eqb-false, not-true, not_from_false}
-use Rattle.std.proofs.lemmas.List.Elements.{All-contains, Contains-append_left, Contains-push, Contains-push_cases, Contains-get_or}
-use Rattle.std.proofs.lemmas.Option.{slice_get-get_or, slice_get_within, get_or_from_slice_get}
-use Rattle.hierarchy.specs.declared.entry.Entry.{Entry}
-use Rattle.hierarchy.specs.Lists.{IsCore}
-use Rattle.witness.specs.declared.edge.Edge.{Edge}
-use Rattle.witness.specs.Rows.{row_at}
-use Rattle.witness.specs.inside.Searching.{IsEdgePut}
-use Rattle.contractor.specs.declared.layer.Layer.{Layer}
-use Rattle.contractor.specs.inside.Partway.{IsPut, HaveOtherEnds}
-use Rattle.contractor.specs.inside.Layers.{IsLayer, StandsForEntry, IsInRows, FitsRows, IsReplaced, IsAdded, IsEntered, IsEdgeListed, IsPlaceable, into_at, edge_of}
+use Rattle.plan_base.proofs.Common.{◌≡◌, ◌≢◌, ℕ, ◌<◌, ◌≤◌, ◌^◌, ◌⊎◌, inl, inr, Bool, not, nat_eq, List, [], ◌∷◌, ◌∙◌, length, get_or, Some, refl, sym, ap, subst, arith, Contains, Vec, filter, slice_get, Global, cases_eq, cases_order, ne_eqb, eqb-false, not-true, not_from_false, All-contains, Contains-append_left, Contains-push, Contains-push_cases, Contains-get_or, slice_get-get_or, slice_get_within, get_or_from_slice_get}
+use Rattle.hierarchy.specs.{Entry, IsCore}
+use Rattle.witness.specs.{Edge, row_at, inside.IsEdgePut}
+use Rattle.contractor.specs.{declared.layer.Layer.Layer, inside.IsPut, inside.HaveOtherEnds, inside.IsLayer, inside.StandsForEntry, inside.IsInRows, inside.FitsRows, inside.IsReplaced, inside.IsAdded, inside.IsEntered, inside.IsEdgeListed, inside.IsPlaceable, inside.into_at, inside.edge_of}
 use Rattle.witness.proofs.ListLemmas.{slice_get-set_same, slice_get-set_other}
 use Rattle.contractor.proofs.ListLemmas.{filter_keeps, filter_was, place_of, contains_place, slice_get_push_left, slice_get_push_last, slice_get_push_cases, slice_get_set_cases}
 

@@ -1,11 +1,7 @@
 -- Rows, and one of them changed.
-use Rattle.std.proofs.Common.{◌≡◌, ◌≢◌, ℕ, ◌<◌, List, length, get_or, set, refl, ap}
-use Rattle.std.specs.Prelude.{Vec}
-use Rattle.std.specs.declared.alloc.Global.{Global}
-use Rattle.std.proofs.lemmas.Option.{slice_get_read}
-use Rattle.witness.specs.declared.edge.Edge.{Edge}
-use Rattle.witness.specs.Rows.{row_at, items_of}
-use Rattle.contractor.specs.inside.Layers.{into_at, nodes_in}
+use Rattle.plan_base.proofs.Common.{◌≡◌, ◌≢◌, ℕ, ◌<◌, List, length, get_or, set, refl, ap, Vec, Global, slice_get_read}
+use Rattle.witness.specs.{Edge, row_at, items_of}
+use Rattle.contractor.specs.inside.{into_at, nodes_in}
 use Rattle.witness.proofs.ListLemmas.{slice_get-set_same, slice_get-set_other}
 
 pub row_read : (rows : List (Vec Edge Global)) (u : ℕ) (row : Vec Edge Global) → u < length rows → row ≡ get_or rows u row → row_at rows u ≡ row.items

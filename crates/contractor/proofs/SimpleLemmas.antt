@@ -1,17 +1,11 @@
 -- Walks without a node twice, and how long roads between two nodes can take at least.
-use Rattle.std.proofs.Common.{◌≡◌, ℕ, ◌*◌, ◌<◌, ◌≤◌, ◌^◌, ◌⊎◌, inl, inr, Bool, true, false, nat_eq, List, [], ◌∷◌, length, refl, sym, subst, arith}
-use Rattle.std.specs.List.{list_any, IsDistinct, AllByRecursion}
-use Rattle.std.proofs.lemmas.Bool.{false≢true, eqb-true, or_cases, or_parts}
-use Rattle.std.proofs.lemmas.List.{length-map}
-use Rattle.std.proofs.lemmas.List.Elements.{All-contains}
-use Rattle.std.proofs.lemmas.Map.Keys.{IsDistinct-cons, IsDistinct-tail}
+use Rattle.plan_base.proofs.Common.{◌≡◌, ℕ, ◌*◌, ◌<◌, ◌≤◌, ◌^◌, ◌⊎◌, inl, inr, Bool, true, false, nat_eq, List, [], ◌∷◌, length, refl, sym, subst, arith, list_any, AllByRecursion, false≢true, eqb-true, or_parts, length-map, All-contains, IsDistinct-cons, IsDistinct-tail}
+use Rattle.std.specs.List.{IsDistinct}
+use Rattle.std.proofs.lemmas.Bool.{or_cases}
 use Rattle.std.proofs.lemmas.Map.Steps.{length-le_from_distinct_below}
-use Rattle.mode_network.specs.declared.nodes.Arc.{Arc}
-use Rattle.mode_network.specs.NetworkLists.{NetworkLists}
-use Rattle.mode_network.specs.Journeys.{Leads}
-use Rattle.mode_network.specs.Rules.{IsNetwork}
+use Rattle.mode_network.specs.{Arc, Leads, IsNetwork, NetworkLists.NetworkLists}
 use Rattle.mode_network.proofs.RuleLemmas.{arcs_in_range, nodes_hold_roads}
-use Rattle.hierarchy.specs.Hops.{Hop, AreHops, total}
+use Rattle.hierarchy.specs.{Hop, AreHops, total}
 use Rattle.hierarchy.specs.Hops as hops
 
 abbrev stops : ℕ → List Hop → List ℕ

@@ -1,23 +1,10 @@
 -- One way more, by a shortcut or by a witness.
-use Rattle.std.proofs.Common.{◌≡◌, ◌≢◌, ℕ, ◌+◌, ◌<◌, ◌≤◌, ◌^◌, ◌⊎◌, inl, inr, List, [], ◌∷◌, ◌++◌, ◌∙◌, length, get_or, Some, refl, sym, ap, subst, arith}
-use Rattle.std.specs.Prelude.{All, Contains}
-use Rattle.std.proofs.lemmas.Bool.{cases_lt, cases_order}
-use Rattle.std.proofs.lemmas.List.Elements.{All-contains, Contains-get_or, Contains-append_left, Contains-push}
-use Rattle.mode_network.specs.NetworkLists.{NetworkLists}
-use Rattle.mode_network.specs.Journeys.{Leads}
-use Rattle.mode_network.specs.Rules.{IsNetwork}
-use Rattle.hierarchy.specs.Hops.{Hop, AreHops, AreHigh, total, nodes_along}
-use Rattle.hierarchy.specs.Lists.{HierarchyLists, height_in, IsCore, IsContracted}
-use Rattle.hierarchy.specs.Soundness.{HasEntry, HasLighter, IsBridged, IsSound, IsFree}
-use Rattle.hierarchy.specs.Contraction.{IsShortcut}
-use Rattle.hierarchy.proofs.SoundLemmas.{fits}
-use Rattle.hierarchy.proofs.DistanceLemmas.{roads_of}
-use Rattle.hierarchy.proofs.ContractionLemmas.{contractions_keep_soundness}
-use Rattle.contractor.specs.declared.way.Way.{Way}
-use Rattle.contractor.specs.inside.Partway.{IsTrueWeight, IsLive, IsWayPast, IsNoHeavier, AreWays, IsPartway, IsPut, shortcut_of}
-use Rattle.contractor.proofs.LiveLemmas.{HasLiveWalk, core_more, core_is_high, live_walk, bridge_kept}
-use Rattle.contractor.proofs.PastLemmas.{true_sum}
-use Rattle.contractor.proofs.SimpleLemmas.{road, least_is_light}
+use Rattle.plan_base.proofs.Common.{◌≡◌, ◌≢◌, ℕ, ◌+◌, ◌<◌, ◌≤◌, ◌^◌, ◌⊎◌, inl, inr, List, [], ◌∷◌, ◌++◌, ◌∙◌, length, get_or, Some, refl, sym, ap, subst, arith, All, Contains, cases_lt, cases_order, All-contains, Contains-get_or, Contains-append_left, Contains-push}
+use Rattle.mode_network.specs.{NetworkLists.NetworkLists, Leads, IsNetwork}
+use Rattle.hierarchy.specs.{Hop, AreHops, AreHigh, total, nodes_along, HierarchyLists, height_in, IsCore, IsContracted, HasEntry, HasLighter, IsBridged, IsSound, IsFree, IsShortcut}
+use Rattle.hierarchy.proofs.{SoundLemmas.fits, DistanceLemmas.roads_of, ContractionLemmas.contractions_keep_soundness}
+use Rattle.contractor.specs.{declared.way.Way.Way, inside.IsTrueWeight, inside.IsLive, inside.IsWayPast, inside.IsNoHeavier, inside.AreWays, inside.IsPartway, inside.IsPut, inside.shortcut_of}
+use Rattle.contractor.proofs.{LiveLemmas.HasLiveWalk, LiveLemmas.core_more, LiveLemmas.core_is_high, LiveLemmas.live_walk, LiveLemmas.bridge_kept, PastLemmas.true_sum, SimpleLemmas.road, SimpleLemmas.least_is_light}
 
 -- a way that stands before place k is bridged, and one beside which there was an entry as light
 way_bridged : (n : NetworkLists) (h : HierarchyLists) (x : ℕ) (ways : List Way) (k : ℕ) (h2 : HierarchyLists) → IsPartway n h x ways k h2 → (u v a b : ℕ)

@@ -1,10 +1,8 @@
 -- A hierarchy rests on roads and links alone: what is contracted for a network without its trips is so for the network.
-use Rattle.std.specs.Prelude.{ℕ, []}
+use Rattle.plan_base.proofs.Common.{ℕ, []}
 use Rattle.mode_network.specs.NetworkLists.{NetworkLists}
-use Rattle.hierarchy.specs.declared.entry.Entry.{Entry}
-use Rattle.hierarchy.specs.Lists.{HierarchyLists}
-use Rattle.hierarchy.specs.Soundness.{IsFree, FitsLayer}
-use Rattle.contractor.specs.Contracted.{IsDistance, IsContractedTo}
+use Rattle.hierarchy.specs.{Entry, HierarchyLists, IsFree, FitsLayer}
+use Rattle.contractor.specs.{IsDistance, IsContractedTo}
 
 module _ (n : NetworkLists) where
   -- the network without its trips

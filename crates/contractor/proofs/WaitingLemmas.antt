@@ -1,23 +1,11 @@
 -- The nodes that are to be contracted, and their number.
-use Rattle.std.proofs.Common.{◌≡◌, ◌≢◌, ℕ, suc, ◌+◌, ◌-◌, ◌<◌, ◌≤◌, inl, inr, Bool, true, false, cond, List, [], ◌∷◌, ◌++◌, ◌∙◌, length, get_or, set, Some, None, sym, ap, subst, arith}
-use Rattle.std.specs.Prelude.{Contains, slice_get, count_by}
-use Rattle.std.proofs.lemmas.Bool.{cases_eq, false≢true}
-use Rattle.std.proofs.lemmas.List.{length-set, length_push}
-use Rattle.std.proofs.lemmas.List.Elements.{Contains-get_or}
-use Rattle.std.proofs.lemmas.List.Sums.{sum_by-set, sum_by_push}
-use Rattle.std.proofs.lemmas.Option.{slice_get_within, get_or_from_slice_get, same_Some}
-use Rattle.mode_network.specs.NetworkLists.{NetworkLists}
-use Rattle.mode_network.specs.Journeys.{Leads}
-use Rattle.hierarchy.specs.declared.entry.Entry.{Entry}
-use Rattle.hierarchy.specs.Hops.{Hop, AreHops, total}
-use Rattle.hierarchy.specs.Lists.{HierarchyLists, IsCore}
-use Rattle.hierarchy.specs.Soundness.{IsFree}
+use Rattle.plan_base.proofs.Common.{◌≡◌, ◌≢◌, ℕ, suc, ◌+◌, ◌-◌, ◌<◌, ◌≤◌, inl, inr, Bool, true, false, cond, List, [], ◌∷◌, ◌++◌, ◌∙◌, length, get_or, set, Some, None, sym, ap, subst, arith, Contains, slice_get, count_by, cases_eq, false≢true, length-set, length_push, Contains-get_or, sum_by-set, sum_by_push, slice_get_within, get_or_from_slice_get, same_Some}
+use Rattle.mode_network.specs.{NetworkLists.NetworkLists, Leads}
+use Rattle.hierarchy.specs.{Entry, Hop, AreHops, total, HierarchyLists, IsCore, IsFree}
 use Rattle.hierarchy.proofs.RoadLemmas.{roads_under}
-use Rattle.contractor.specs.Contracted.{is_free, free_below, free_count, IsContractedTo, IsTrueDistance}
-use Rattle.contractor.specs.inside.Layers.{AreWaiting, IsFinished}
+use Rattle.contractor.specs.{is_free, free_below, free_count, IsContractedTo, IsTrueDistance, inside.AreWaiting, inside.IsFinished}
 use Rattle.witness.proofs.ListLemmas.{slice_get-set_same, slice_get-set_other}
-use Rattle.contractor.proofs.ListLemmas.{slice_get_push_cases}
-use Rattle.contractor.proofs.LiveLemmas.{core_more}
+use Rattle.contractor.proofs.{ListLemmas.slice_get_push_cases, LiveLemmas.core_more}
 
 abbrev pub as_number : Bool → ℕ
 as_number b = cond b 1 0

@@ -1,30 +1,11 @@
 -- The ways by a node, in order.
-use Rattle.std.proofs.Common.{◌≡◌, ◌≢◌, ℕ, ◌+◌, ◌<◌, ◌≤◌, ◌⊎◌, inl, inr, Bool, true, nat_eq, ◌&&◌, List, [], ◌∷◌, ◌∙◌, length, take, get_or, refl, sym, ap, subst, arith}
-use Rattle.std.specs.Prelude.{AllPairs, Contains, IsPermutation, IsSorted, Vec}
-use Rattle.std.specs.declared.alloc.Global.{Global}
+use Rattle.plan_base.proofs.Common.{◌≡◌, ◌≢◌, ℕ, ◌+◌, ◌<◌, ◌≤◌, ◌⊎◌, inl, inr, Bool, true, nat_eq, ◌&&◌, List, [], ◌∷◌, ◌∙◌, length, take, get_or, refl, sym, ap, subst, arith, AllPairs, Contains, IsPermutation, IsSorted, Vec, Global, dedup, IsTotalOrder, eq_by_cmp, Less, cases_order, nat_tests, then_total, on_total, nat_cmp_total, eq_by_cmp_equiv, Contains-from_dedup, IsStrictlySortedBy-dedup, Contains-permutation, IsPermutation-sym, All-contains, All-more, All-weaker, Contains-append_left, Contains-push, Contains-push_cases, Contains-get_or, All-contains_itself, take_more, get_or_default}
 use mathlib.Core.Path.{fun_ext}
-use Rattle.std.specs.List.{dedup}
-use Rattle.std.specs.Cmp.{IsTotalOrder}
-use Rattle.std.specs.Ordering.{eq_by_cmp}
-use Rattle.std.specs.declared.cmp.Ordering.TheVariants.{Less}
-use Rattle.std.proofs.lemmas.Bool.{cases_order}
-use Rattle.std.proofs.lemmas.Bool.Decides.{nat_tests}
-use Rattle.std.proofs.lemmas.Cmp.{then_total, on_total, nat_cmp_total}
-use Rattle.std.specs.Cmp.{eq_by_cmp_equiv}
-use Rattle.std.proofs.lemmas.List.Kept.{Contains-dedup, Contains-from_dedup, IsStrictlySortedBy-dedup}
-use Rattle.std.proofs.lemmas.List.Sorted.{Contains-permutation, IsPermutation-sym}
+use Rattle.std.proofs.lemmas.List.Kept.{Contains-dedup}
 use Rattle.std.proofs.lemmas.Map.Keys.{Less-from_sorted}
-use Rattle.hierarchy.specs.declared.entry.Entry.{Entry}
-use Rattle.hierarchy.specs.Lists.{HierarchyLists}
-use Rattle.hierarchy.specs.Soundness.{HasEntry, HasLighter}
-use Rattle.contractor.specs.inside.Partway.{IsWayPast, AreWays, HaveOtherEnds}
-use Rattle.std.proofs.lemmas.List.Elements.{All-contains, All-more, All-weaker, Contains-append_left, Contains-push, Contains-push_cases, Contains-get_or, All-contains_itself}
-use Rattle.std.proofs.lemmas.List.{take_more, get_or_default}
-use Rattle.witness.specs.declared.edge.Edge.{Edge}
-use Rattle.witness.specs.Rows.{row_at}
-use Rattle.contractor.specs.declared.way.Way.{Way}
-use Rattle.contractor.specs.declared.way.Side.{Side}
-use Rattle.contractor.specs.inside.Layers.{HasWithin, IsListedOrWithin, IsWayTaken, IsWayOf, AreWaysWith, AreWaysOf, AreFirst, AreSecond, way_with, way_cmp, side_of}
+use Rattle.hierarchy.specs.{Entry, HierarchyLists, HasEntry, HasLighter}
+use Rattle.contractor.specs.{inside.IsWayPast, inside.AreWays, inside.HaveOtherEnds, inside.HasWithin, inside.IsListedOrWithin, inside.IsWayTaken, inside.IsWayOf, inside.AreWaysWith, inside.AreWaysOf, inside.AreFirst, inside.AreSecond, inside.way_with, inside.way_cmp, inside.side_of, declared.way.Way.Way, declared.way.Side.Side}
+use Rattle.witness.specs.{Edge, row_at}
 use Rattle.witness.proofs.ListLemmas.{contains_head, head_or_tail}
 use Rattle.contractor.proofs.ListLemmas.{none_in, take_more_cases}
 

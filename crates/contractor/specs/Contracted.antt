@@ -1,14 +1,7 @@
 -- What contraction makes of a network.
-use Rattle.std.specs.Prelude.{◌≡◌, ◌≢◌, ℕ, zero, suc, ◌+◌, ◌-◌, ◌≤◌, ◌&&◌, Bool, not, List, length, All, None, if◌then◌else◌}
-use Rattle.std.specs.Option.{is_some}
-use Rattle.mode_network.specs.NetworkLists.{NetworkLists, nodes_of, mode_at}
-use Rattle.mode_network.specs.Indexes.{is_end_of}
-use Rattle.mode_network.specs.Journeys.{Leads}
-use Rattle.hierarchy.specs.declared.entry.Entry.{Entry}
-use Rattle.hierarchy.specs.Hops.{Hop, AreHops, total}
-use Rattle.hierarchy.specs.Lists.{HierarchyLists}
-use Rattle.hierarchy.specs.Soundness.{IsSound}
-use Rattle.hierarchy.specs.Contraction.{HasRoads}
+use Rattle.std.specs.Prelude.{◌≡◌, ◌≢◌, ℕ, zero, suc, ◌+◌, ◌-◌, ◌≤◌, ◌&&◌, Bool, not, List, length, All, None, if◌then◌else◌, is_some}
+use Rattle.mode_network.specs.{NetworkLists.NetworkLists, nodes_of, mode_at, is_end_of, Leads}
+use Rattle.hierarchy.specs.{Entry, Hop, AreHops, total, HierarchyLists, IsSound, HasRoads}
 
 -- a road node that no link joins: these may be contracted
 abbrev pub is_free : NetworkLists → ℕ → Bool

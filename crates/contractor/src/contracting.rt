@@ -1,6 +1,6 @@
 //! The contraction of all nodes that are not kept.
 
-ghost use Rattle.std.specs.Prelude.{◌≡◌, ◌+◌, ◌-◌, ◌<◌, ◌≤◌, ◌^◌, [], length, IfOk, OnOk, IsTrue};
+ghost use Rattle.std.specs.Prelude.{◌≡◌, ◌+◌, ◌-◌, ◌<◌, ◌≤◌, [], length, IfOk, OnOk, IsTrue};
 ghost use Rattle.mode_network.specs.NetworkLists.{nodes_of};
 ghost use Rattle.hierarchy.specs.Soundness.{IsFree};
 ghost use Rattle.contractor.specs.Contracted.{IsContractedTo, free_count, is_free};

@@ -1,6 +1,6 @@
 //! A node taken out of what is left.
 
-ghost use Rattle.std.specs.Prelude.{◌≡◌, ◌≢◌, ◌+◌, ◌<◌, ◌^◌, [], ◌∷◌, ◌++◌, not, ◌==◌, filter, length, All, Contains, OnOk, IfOk};
+ghost use Rattle.std.specs.Prelude.{◌≡◌, ◌+◌, ◌<◌, [], ◌∷◌, ◌++◌, not, ◌==◌, filter, length, All, OnOk, IfOk};
 ghost use Rattle.hierarchy.specs.Lists.{IsCore};
 ghost use Rattle.contractor.specs.inside.Layers.{IsLayer, IsCut, IsLessInto, AreSides, AreSidesOf, AreFirst, AreSecond, IsRowTaken, AreNodesTaken};
 

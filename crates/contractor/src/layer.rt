@@ -1,6 +1,6 @@
 //! What contraction keeps: the hierarchy so far, and what is left of the layers.
 
-ghost use Rattle.std.specs.Prelude.{◌≡◌, ◌≢◌, ◌+◌, ◌<◌, ◌^◌, [], ◌∷◌, ◌++◌, not, ◌==◌, filter, length, All, OnOk, IfOk, MatchOption};
+ghost use Rattle.std.specs.Prelude.{◌≡◌, ◌≢◌, ◌+◌, ◌<◌, [], ◌∷◌, ◌++◌, not, ◌==◌, filter, length, All, OnOk, IfOk, MatchOption};
 ghost use Rattle.hierarchy.specs.Lists.{IsCore};
 ghost use Rattle.witness.specs.inside.Searching.{IsEdgePut};
 ghost use Rattle.contractor.specs.inside.Partway.{IsPut, shortcut_of};

@@ -1,27 +1,12 @@
 -- The arcs of a stop from a ride on are the rides from the same board.
-use Rattle.std.proofs.Common.{◌≡◌, ℕ, suc, ◌+◌, ◌-◌, ◌<◌, ◌≤◌, ◌∙◌, ◌++◌, ◌&&◌, true, false, cond, nat_lt, List, [], ◌∷◌, length, drop, Option, Some, None, inl, inr, refl, sym, ap, subst, arith}
-use Rattle.std.specs.Prelude.{slice_index_or, is_some, Ok, Err, IfOk, OnOk}
+use Rattle.plan_base.proofs.Common.{◌≡◌, ℕ, suc, ◌+◌, ◌-◌, ◌<◌, ◌≤◌, ◌∙◌, ◌++◌, ◌&&◌, true, false, cond, nat_lt, List, [], ◌∷◌, length, drop, Option, Some, None, inl, inr, refl, sym, ap, subst, arith, slice_index_or, is_some, Ok, Err, IfOk, OnOk, lt-ltb, le-ltb, cases_lt, get_or-take, length-take}
 use Rattle.std.specs.declared.result.Result.{Result}
-use Rattle.std.proofs.lemmas.Bool.{lt-ltb, le-ltb, cases_lt}
-use Rattle.std.proofs.lemmas.List.{get_or-take, length-take}
-use Rattle.search_laws.specs.Ways.{is_open, open_way, way_at, ways_from}
-use Rattle.search_laws.specs.declared.graph.Way.{Way}
-use Rattle.timetable_arcs.specs.declared.rides.Ride.{Ride as RideCalls}
-use Rattle.timetable_arcs.specs.Patterns.{TableLists, pattern_trip}
-use Rattle.timetable_arcs.specs.Rides.{rides_at, alights}
-use Rattle.timetable_arcs.specs.Table.{IsTable}
-use Rattle.mode_network.specs.declared.nodes.Arc.{Arc}
-use Rattle.mode_network.specs.NetworkLists.{NetworkLists, letter_at, stop_at}
-use Rattle.mode_network.specs.Rules.{IsNetwork}
-use Rattle.mode_network.specs.Indexes.{range_from}
-use Rattle.plain_graph.specs.declared.plain.PlainArc.{PlainArc}
-use Rattle.plain_graph.specs.declared.plain.PlainArc.TheVariants.{Road, Link, Ride}
-use Rattle.plain_graph.specs.PlainArcs.{plain_arc, graph_arc, count_from, arcs_at, stands_at, rides_of, rides_from_stop, no_arc, no_ride, pattern_call}
-use Rattle.plain_graph.specs.inside.OutArcs.{IsOut, IsRideFrom, out_of, stop_is_found, no_mode}
+use Rattle.search_laws.specs.{is_open, open_way, way_at, ways_from, Way}
+use Rattle.timetable_arcs.specs.{Ride as RideCalls, TableLists, pattern_trip, rides_at, alights, IsTable}
+use Rattle.mode_network.specs.{Arc, letter_at, stop_at, IsNetwork, range_from, NetworkLists.NetworkLists}
+use Rattle.plain_graph.specs.{PlainArc, Road, Link, Ride, plain_arc, graph_arc, count_from, arcs_at, stands_at, rides_of, rides_from_stop, no_arc, no_ride, pattern_call, inside.IsOut, inside.IsRideFrom, inside.out_of, inside.stop_is_found, inside.no_mode}
 use Rattle.plain_graph.proofs.PlaceTies.{road_at}
-use Rattle.departures.specs.declared.fastest.FastestCall.{FastestCall}
-use Rattle.departures.specs.LeastArcs.{least_arrival, least_meaning}
-use Rattle.departures.specs.inside.BoardRides.{ride_to, least_way, least_ways, ends_from, AddsAlike}
+use Rattle.departures.specs.{FastestCall, least_arrival, least_meaning, inside.ride_to, inside.least_way, inside.least_ways, inside.ends_from, inside.AddsAlike}
 use Rattle.departures.proofs.BoardLemmas.{ride_behind, one_end}
 
 module _ (n : NetworkLists) (t : TableLists) (v : ℕ) where

@@ -1,22 +1,12 @@
 -- The rides from one board stand one behind another among the arcs of a stop.
-use Rattle.std.proofs.Common.{◌≡◌, ℕ, zero, suc, ◌+◌, ◌-◌, ◌<◌, ◌≤◌, ◌∙◌, ◌++◌, ◌&&◌, Bool, true, false, cond, nat_lt, List, [], ◌∷◌, length, map, take, drop, inl, inr, refl, sym, ap, subst, append_assoc, length-append, arith}
-use Rattle.std.specs.Prelude.{slice_index_or}
-use Rattle.std.specs.List.{flat_map}
-use Rattle.std.proofs.Math.Seq.{drop-append-add}
-use Rattle.std.proofs.lemmas.Bool.{ltb-true, ltb-false, cases_lt}
-use Rattle.std.proofs.lemmas.List.{get_or_append_left, get_or-append-add, get_or-drop, get_or-map, drop-map, drop-append-le, drop-drop, drop_more, length-map}
-use Rattle.search_laws.specs.declared.graph.Way.{Way}
-use Rattle.timetable_arcs.specs.declared.trips.Call.{Call}
-use Rattle.timetable_arcs.specs.declared.rides.Board.{Board}
-use Rattle.timetable_arcs.specs.declared.rides.Ride.{Ride as RideCalls}
-use Rattle.timetable_arcs.specs.Patterns.{TableLists, pattern_trip, no_call}
-use Rattle.timetable_arcs.specs.Rides.{rides_at, boards_at, alights}
+use Rattle.plan_base.proofs.Common.{◌≡◌, ℕ, zero, suc, ◌+◌, ◌-◌, ◌<◌, ◌≤◌, ◌∙◌, ◌++◌, ◌&&◌, Bool, true, false, cond, nat_lt, List, [], ◌∷◌, length, map, take, drop, inl, inr, refl, sym, ap, subst, append_assoc, length-append, arith, slice_index_or, flat_map, drop-append-add, ltb-true, ltb-false, cases_lt, get_or_append_left, get_or-append-add, get_or-drop, get_or-map, drop-map, drop-append-le, drop-drop, drop_more, length-map}
+use Rattle.search_laws.specs.{Way}
+use Rattle.timetable_arcs.specs.{Call, Board, Ride as RideCalls, TableLists, pattern_trip, no_call, rides_at, boards_at, alights}
 use Rattle.timetable_arcs.proofs.RideLemmas.{rides_on, from_rides}
 use Rattle.mode_network.specs.NetworkLists.{NetworkLists}
 use Rattle.mode_network.proofs.RuleLemmas.{both}
-use Rattle.plain_graph.specs.PlainArcs.{no_ride, pattern_call}
-use Rattle.departures.specs.declared.fastest.FastestCall.{FastestCall}
-use Rattle.departures.specs.inside.BoardRides.{ride_to, least_way, least_ways, ends_from}
+use Rattle.plain_graph.specs.{no_ride, pattern_call}
+use Rattle.departures.specs.{FastestCall, inside.ride_to, inside.least_way, inside.least_ways, inside.ends_from}
 
 -- ---- the calls at which one may alight
 

@@ -1,21 +1,8 @@
 -- No run of a pattern rides faster than a fastest run that is made of stretches that are no longer than its own.
-use Rattle.std.proofs.Common.{◌≡◌, ℕ, zero, suc, ◌+◌, ◌<◌, ◌≤◌, ◌⊎◌, ◌∙◌, inl, inr, List, [], ◌∷◌, ◌++◌, length, get_or, sym, ap, subst, arith}
-use Rattle.std.specs.Prelude.{slice_index_or}
-use Rattle.std.proofs.lemmas.List.{get_or_default, get_or_append_left, get_or_push}
-use Rattle.std.proofs.lemmas.Bool.{cases_lt}
-use Rattle.timetable_arcs.specs.declared.trips.Call.{Call}
-use Rattle.timetable_arcs.specs.declared.trips.Instance.{Instance}
-use Rattle.timetable_arcs.specs.declared.rides.Ride.{Ride}
-use Rattle.timetable_arcs.specs.Patterns.{TableLists, IsIn, IsBehind, trip_at, call_of, runs_of, arrives, departs}
-use Rattle.timetable_arcs.specs.Table.{IsTable}
-use Rattle.timetable_arcs.proofs.TableLemmas.{never_back, waits_there, trip_of_run}
-use Rattle.timetable_arcs.proofs.TripLemmas.{trip_well}
-use Rattle.timetable_arcs.proofs.RunLemmas.{within_patterns}
-use Rattle.timetable_arcs.specs.Runs.{IsFirstFrom}
-use Rattle.departures.specs.declared.fastest.FastestCall.{FastestCall}
-use Rattle.departures.specs.declared.fastest.Stretch.{Stretch}
-use Rattle.departures.specs.Fastest.{fastest_call, ride_ms, least_ms, IsNoFaster}
-use Rattle.departures.specs.inside.Stretches.{AreShortened, FitBetweenCalls, calls_from}
+use Rattle.plan_base.proofs.Common.{◌≡◌, ℕ, zero, suc, ◌+◌, ◌<◌, ◌≤◌, ◌⊎◌, ◌∙◌, inl, inr, List, [], ◌∷◌, ◌++◌, length, get_or, sym, ap, subst, arith, slice_index_or, get_or_default, get_or_append_left, get_or_push, cases_lt}
+use Rattle.timetable_arcs.specs.{Call, Instance, Ride, TableLists, IsIn, IsBehind, trip_at, call_of, runs_of, arrives, departs, IsTable, IsFirstFrom}
+use Rattle.timetable_arcs.proofs.{TableLemmas.never_back, TableLemmas.waits_there, TableLemmas.trip_of_run, TripLemmas.trip_well, RunLemmas.within_patterns}
+use Rattle.departures.specs.{FastestCall, fastest_call, ride_ms, least_ms, IsNoFaster, declared.fastest.Stretch.Stretch, inside.AreShortened, inside.FitBetweenCalls, inside.calls_from}
 use Rattle.departures.proofs.StretchLemmas.{next_is}
 
 module _ (t : TableLists) (table : IsTable t) (p : ℕ) (run : Instance) (is_in : IsIn t p run) (stretches : List Stretch) (within : FitBetweenCalls (trip_at t run.trip).calls stretches) where

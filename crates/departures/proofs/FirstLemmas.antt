@@ -1,41 +1,20 @@
 -- What a search finds from a moment on is a journey with a ride that arrives first.
-use Rattle.std.proofs.Common.{◌≡◌, ℕ, ◌+◌, ◌^◌, ◌<◌, ◌≤◌, ◌∙◌, List, [], ◌∷◌, Option, Some, None, sym, ap, subst, arith}
-use Rattle.std.specs.Prelude.{All, IfSome}
-use Rattle.std.specs.List.{count_by}
-use Rattle.search_laws.specs.GraphLaws.{GraphMeaning}
-use Rattle.search_laws.specs.LabelLaws.{LabelsMeaning, Accepts}
-use Rattle.search_laws.specs.Walks.{ArrivesAt, IsLeast}
-use Rattle.product_search.specs.declared.label.Walk.{Walk}
-use Rattle.product_search.specs.Answer.{IsArrival, IsWalkTo, IsWalkFor, last_time}
-use Rattle.plain_graph.specs.PlainArcs.{plain_meaning}
-use Rattle.plain_graph.specs.Simulation.{JourneysAreWalks}
-use Rattle.mode_expression.specs.Form.{IsWordOf}
-use Rattle.timetable_arcs.specs.Patterns.{TableLists}
-use Rattle.mode_network.specs.declared.steps.Step.{Step}
-use Rattle.mode_network.specs.NetworkLists.{NetworkLists}
-use Rattle.mode_network.specs.Rules.{IsNetwork}
-use Rattle.mode_network.specs.Journeys.{Route, AreSteps}
-use Rattle.mode_network.specs.Copies.{IsCopy}
-use Rattle.journey.specs.Best.{Asked, Answers}
-use Rattle.journey.specs.Blocks.{IsPrintable}
-use Rattle.journey.specs.Boarded.{AreOnTime, BoardsOnTime}
-use Rattle.journey.specs.CopyLists.{AreTheCopies}
-use Rattle.journey.specs.Ends.{HasTime}
-use Rattle.journey.proofs.CopyLemmas.{copy_in_range}
-use Rattle.journey.proofs.StepLemmas.{steps_once}
-use Rattle.unpack.specs.Unpacking.{IsSoon, node_after, arrival_after, letters_of}
+use Rattle.plan_base.proofs.Common.{◌≡◌, ℕ, ◌+◌, ◌^◌, ◌<◌, ◌≤◌, ◌∙◌, List, [], ◌∷◌, Option, Some, None, sym, ap, subst, arith, All, IfSome, count_by}
+use Rattle.search_laws.specs.{GraphMeaning, LabelsMeaning, Accepts, ArrivesAt, IsLeast}
+use Rattle.product_search.specs.{Walk, IsArrival, IsWalkTo, IsWalkFor, last_time}
+use Rattle.plain_graph.specs.{plain_meaning, JourneysAreWalks}
+use Rattle.mode_expression.specs.{IsWordOf}
+use Rattle.timetable_arcs.specs.{TableLists}
+use Rattle.mode_network.specs.{Step, IsNetwork, Route, AreSteps, IsCopy, NetworkLists.NetworkLists}
+use Rattle.journey.specs.{Asked, Answers, IsPrintable, AreOnTime, BoardsOnTime, AreTheCopies, HasTime}
+use Rattle.journey.proofs.{CopyLemmas.copy_in_range, StepLemmas.steps_once}
+use Rattle.unpack.specs.{IsSoon, node_after, arrival_after, letters_of}
 use Rattle.unpack.proofs.TakenLemmas as taken
-use Rattle.latest_departure.specs.inside.Forward.{leaving}
-use Rattle.few_boardings.specs.Counted.{transits}
-use Rattle.few_boardings.specs.Boardings.{is_ride, rides}
+use Rattle.latest_departure.specs.inside.{leaving}
+use Rattle.few_boardings.specs.{transits, is_ride, rides}
 use Rattle.few_boardings.proofs.RideLemmas.{letters_count}
-use Rattle.departures.specs.declared.row.Pair.{Pair}
-use Rattle.departures.specs.declared.row.Row.{Row}
-use Rattle.departures.specs.Departures.{SetsOff, IsPair, IsRidden}
-use Rattle.departures.specs.inside.SettingOff.{IsSetOff}
-use Rattle.departures.specs.inside.Searching.{ReadsRides, IsRowFor, IsRowUnpacked, IsFirstRow, IsFirstRowFrom}
-use Rattle.departures.proofs.ReaderLemmas.{pair_rises}
-use Rattle.departures.proofs.SettingOffLemmas.{sets_off, same_rides, have_times}
+use Rattle.departures.specs.{Pair, Row, SetsOff, IsPair, IsRidden, inside.IsSetOff, inside.ReadsRides, inside.IsRowFor, inside.IsRowUnpacked, inside.IsFirstRow, inside.IsFirstRowFrom}
+use Rattle.departures.proofs.{ReaderLemmas.pair_rises, SettingOffLemmas.sets_off, SettingOffLemmas.same_rides, SettingOffLemmas.have_times}
 
 -- what answers from one moment on answers from each moment on before it departs
 asked_from : (n : NetworkLists) (q : Asked) (s t : ℕ) (k : Route) (u : ℕ) → Answers n (leaving q s) k u → t ≤ k.at → Answers n (leaving q t) k u

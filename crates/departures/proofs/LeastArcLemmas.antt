@@ -1,25 +1,12 @@
 -- The network in which nobody waits for a ride is a lawful graph.
-use Rattle.std.proofs.Common.{◌≡◌, ℕ, ◌+◌, ◌^◌, ◌<◌, ◌≤◌, ◌⊎◌, inl, inr, ◌∙◌, List, Some, None, refl, sym, ap, arith}
-use Rattle.std.specs.Prelude.{slice_index_or}
-use Rattle.search_laws.specs.GraphLaws.{IsLawfulGraph, HasArc}
-use Rattle.timetable_arcs.specs.declared.rides.Ride.{Ride as RideCalls}
-use Rattle.timetable_arcs.specs.Patterns.{TableLists, runs_of, no_run}
-use Rattle.timetable_arcs.specs.Rides.{IsRideAt}
-use Rattle.timetable_arcs.specs.Table.{IsTable}
+use Rattle.plan_base.proofs.Common.{◌≡◌, ℕ, ◌+◌, ◌^◌, ◌<◌, ◌≤◌, ◌⊎◌, inl, inr, ◌∙◌, List, Some, None, refl, sym, ap, arith, slice_index_or}
+use Rattle.search_laws.specs.{IsLawfulGraph, HasArc}
+use Rattle.timetable_arcs.specs.{Ride as RideCalls, TableLists, runs_of, no_run, IsRideAt, IsTable}
 use Rattle.timetable_arcs.proofs.TableLemmas.{first_is_in, arrives_small}
-use Rattle.mode_network.specs.NetworkLists.{NetworkLists}
-use Rattle.mode_network.specs.Rules.{IsNetwork}
-use Rattle.mode_network.specs.Timetables.{IsTimetableOf}
+use Rattle.mode_network.specs.{NetworkLists.NetworkLists, IsNetwork, IsTimetableOf}
 use Rattle.mode_network.proofs.RuleLemmas.{some_is}
-use Rattle.plain_graph.specs.declared.plain.PlainArc.{PlainArc}
-use Rattle.plain_graph.specs.declared.plain.PlainArc.TheVariants.{Road, Link, Stand, Ride}
-use Rattle.plain_graph.specs.PlainArcs.{plain_arc, plain_meaning, arrival}
-use Rattle.plain_graph.specs.inside.OutArcs.{IsOut, out_of}
-use Rattle.plain_graph.specs.Rides.{alights_within}
-use Rattle.plain_graph.specs.Lawful.{plain_lawful}
-use Rattle.departures.specs.declared.fastest.FastestCall.{FastestCall}
-use Rattle.departures.specs.Fastest.{least_ms, NoneIsFaster}
-use Rattle.departures.specs.LeastArcs.{least_arrival, least_meaning}
+use Rattle.plain_graph.specs.{PlainArc, Road, Link, Stand, Ride, plain_arc, plain_meaning, arrival, alights_within, plain_lawful, inside.IsOut, inside.out_of}
+use Rattle.departures.specs.{FastestCall, least_ms, NoneIsFaster, least_arrival, least_meaning}
 
 -- an arc arrives as in the network's own graph, or is a ride
 record IsFastRide (t : TableLists) (a : PlainArc) : Type 0 where

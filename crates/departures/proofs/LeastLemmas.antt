@@ -1,28 +1,14 @@
 -- Where no walk by least times is soon enough, no journey with a ride takes less.
-use Rattle.std.proofs.Common.{◌≡◌, ℕ, ◌+◌, ◌-◌, ◌<◌, ◌≤◌, ◌⊎◌, inl, inr, List, [], Option, Some, None, false, sym, subst, arith}
-use Rattle.std.specs.Prelude.{is_some}
-use Rattle.std.proofs.lemmas.List.Elements.{All-nil}
-use Rattle.search_laws.specs.LabelLaws.{LabelsMeaning, Accepts}
-use Rattle.search_laws.specs.Walks.{ArrivesAt}
-use Rattle.product_search.specs.Answer.{IsArrival}
-use Rattle.timetable_arcs.specs.Patterns.{TableLists}
-use Rattle.timetable_arcs.specs.Table.{IsTable}
-use Rattle.mode_network.specs.NetworkLists.{NetworkLists}
-use Rattle.mode_network.specs.Rules.{IsNetwork}
-use Rattle.mode_network.specs.Timetables.{IsTimetableOf}
+use Rattle.plan_base.proofs.Common.{◌≡◌, ℕ, ◌+◌, ◌-◌, ◌<◌, ◌≤◌, ◌⊎◌, inl, inr, List, [], Option, Some, None, false, sym, subst, arith, is_some, All-nil}
+use Rattle.search_laws.specs.{LabelsMeaning, Accepts, ArrivesAt}
+use Rattle.product_search.specs.{IsArrival}
+use Rattle.timetable_arcs.specs.{TableLists, IsTable}
+use Rattle.mode_network.specs.{NetworkLists.NetworkLists, IsNetwork, IsTimetableOf}
 use Rattle.plain_graph.proofs.Same.{journeys_are_walks}
-use Rattle.journey.specs.Best.{Asked}
-use Rattle.journey.specs.CopyLists.{AreTheCopies}
-use Rattle.departures.specs.declared.fastest.FastestCall.{FastestCall}
-use Rattle.departures.specs.declared.row.Pair.{Pair}
-use Rattle.departures.specs.Departures.{IsPair, IsListed, IsRow, AreRows}
-use Rattle.departures.specs.Fastest.{NoneIsFaster}
-use Rattle.departures.specs.LeastArcs.{least_meaning}
-use Rattle.departures.specs.inside.Searching.{ReadsRides, NoneTakesLess}
-use Rattle.departures.proofs.FirstLemmas.{arrives}
-use Rattle.departures.proofs.LeastWalkLemmas.{walk_as_fast}
+use Rattle.journey.specs.{Asked, AreTheCopies}
+use Rattle.departures.specs.{FastestCall, Pair, IsPair, IsListed, IsRow, AreRows, NoneIsFaster, least_meaning, inside.ReadsRides, inside.NoneTakesLess}
+use Rattle.departures.proofs.{FirstLemmas.arrives, LeastWalkLemmas.walk_as_fast, OrderLemmas.not_before}
 use Rattle.latest_departure.proofs.OrderLemmas.{le_or_above}
-use Rattle.departures.proofs.OrderLemmas.{not_before}
 
 module _ (n : NetworkLists) (network : IsNetwork n) (table : TableLists) (keeps : IsTable table) (of : IsTimetableOf n table) (runs : List (List FastestCall))
     (fastest : NoneIsFaster table runs) (q : Asked) (l : LabelsMeaning) (origins destinations : List ℕ) (reads : ReadsRides q.form l) (from : AreTheCopies n q.from origins)

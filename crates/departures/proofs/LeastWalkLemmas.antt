@@ -1,25 +1,11 @@
 -- For each walk of a network there is one by its least times that takes no longer.
-use Rattle.std.proofs.Common.{◌≡◌, ℕ, ◌+◌, ◌≤◌, ◌++◌, List, [], ◌∷◌, Option, Some, None, refl, ap, arith}
-use Rattle.std.specs.Prelude.{option_map, option_to_list}
-use Rattle.search_laws.specs.Walks.{WalkStep, wait, arc, IsWalk, word_from}
-use Rattle.timetable_arcs.specs.declared.trips.Instance.{Instance}
-use Rattle.timetable_arcs.specs.declared.rides.Ride.{Ride as RideCalls}
-use Rattle.timetable_arcs.specs.Patterns.{TableLists, arrives}
-use Rattle.timetable_arcs.specs.Rides.{IsRideAt}
-use Rattle.timetable_arcs.specs.Table.{IsTable}
-use Rattle.mode_network.specs.NetworkLists.{NetworkLists}
-use Rattle.mode_network.specs.Rules.{IsNetwork}
-use Rattle.mode_network.specs.Timetables.{IsTimetableOf}
+use Rattle.plan_base.proofs.Common.{◌≡◌, ℕ, ◌+◌, ◌≤◌, ◌++◌, List, [], ◌∷◌, Option, Some, None, refl, ap, arith, option_map, option_to_list}
+use Rattle.search_laws.specs.{WalkStep, wait, arc, IsWalk, word_from}
+use Rattle.timetable_arcs.specs.{Instance, Ride as RideCalls, TableLists, arrives, IsRideAt, IsTable}
+use Rattle.mode_network.specs.{NetworkLists.NetworkLists, IsNetwork, IsTimetableOf}
 use Rattle.mode_network.proofs.RuleLemmas.{some_is}
-use Rattle.plain_graph.specs.declared.plain.PlainArc.{PlainArc}
-use Rattle.plain_graph.specs.declared.plain.PlainArc.TheVariants.{Road, Link, Stand, Ride}
-use Rattle.plain_graph.specs.PlainArcs.{plain_arc, plain_meaning, graph_arc, arrival, run_at}
-use Rattle.plain_graph.specs.Rides.{alights_within, takes}
-use Rattle.plain_graph.specs.inside.OutArcs.{IsOut, out_of}
-use Rattle.departures.specs.declared.fastest.FastestCall.{FastestCall}
-use Rattle.departures.specs.Fastest.{least_ms, NoneIsFaster}
-use Rattle.departures.specs.LeastArcs.{least_arrival}
-use Rattle.departures.specs.inside.LeastWalks.{HasWalkAsFast}
+use Rattle.plain_graph.specs.{PlainArc, Road, Link, Stand, Ride, plain_arc, plain_meaning, graph_arc, arrival, run_at, alights_within, takes, inside.IsOut, inside.out_of}
+use Rattle.departures.specs.{FastestCall, least_ms, NoneIsFaster, least_arrival, inside.HasWalkAsFast}
 
 module _ (n : NetworkLists) (network : IsNetwork n) (t : TableLists) (table : IsTable t) (of : IsTimetableOf n t) (runs : List (List FastestCall)) (none : NoneIsFaster t runs) where
   -- an arc that is taken at s arrives no later than if it took as long as from time to u

@@ -1,13 +1,8 @@
 -- There is one list of departures.
-use Rattle.std.proofs.Common.{◌≡◌, ℕ, zero, suc, ◌+◌, ◌<◌, ◌≤◌, ◌⊎◌, Bool, true, false, nat_le, cond, List, [], ◌∷◌, Option, Some, None, inl, inr, refl, sym, ap, ◌∙◌, subst, arith}
-use Rattle.std.specs.Prelude.{AllPairs, Contains}
-use Rattle.std.proofs.lemmas.Bool.{leb-true, leb-false}
-use Rattle.std.proofs.lemmas.List.Elements.{All-contains, Contains-append_left, Contains-append_right}
+use Rattle.plan_base.proofs.Common.{◌≡◌, ℕ, zero, suc, ◌+◌, ◌<◌, ◌≤◌, ◌⊎◌, Bool, true, false, nat_le, cond, List, [], ◌∷◌, Option, Some, None, inl, inr, refl, sym, ap, ◌∙◌, subst, arith, AllPairs, Contains, leb-true, leb-false, All-contains, Contains-append_left, Contains-append_right}
 use Rattle.mode_network.specs.NetworkLists.{NetworkLists}
-use Rattle.journey.specs.Best.{Asked}
-use Rattle.departures.specs.declared.row.Pair.{Pair}
-use Rattle.departures.specs.Departures.{IsWithout, IsListed, AreDepartures}
-use Rattle.departures.specs.Laws.{first_from, DeparturesAreUnique}
+use Rattle.journey.specs.{Asked}
+use Rattle.departures.specs.{Pair, IsWithout, IsListed, AreDepartures, first_from, DeparturesAreUnique}
 
 abbrev pub AreRising : List Pair → Type 0
 AreRising pairs = AllPairs (λ (first second : Pair). first.depart < second.depart) pairs

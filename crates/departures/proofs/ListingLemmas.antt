@@ -1,21 +1,11 @@
 -- The searches one after the other list the departures of a window.
-use Rattle.std.proofs.Common.{◌≡◌, ℕ, ◌+◌, ◌-◌, ◌<◌, ◌≤◌, ◌⊎◌, ◌&&◌, ◌++◌, Bool, true, false, cond, List, [], ◌∷◌, map, Option, Some, None, inl, inr, refl, sym, ap, subst, arith}
-use Rattle.std.specs.Prelude.{All, Contains}
-use Rattle.std.proofs.lemmas.Bool.{ltb-true, ltb-false}
-use Rattle.std.proofs.lemmas.List.{map-append}
-use Rattle.std.proofs.lemmas.List.Elements.{All-nil, All-push, Contains-append_left, Contains-append_right}
-use Rattle.std.proofs.lemmas.List.Quantifiers.{all_pairs_push}
+use Rattle.plan_base.proofs.Common.{◌≡◌, ℕ, ◌+◌, ◌-◌, ◌<◌, ◌≤◌, ◌⊎◌, ◌&&◌, ◌++◌, Bool, true, false, cond, List, [], ◌∷◌, map, Option, Some, None, inl, inr, refl, sym, ap, subst, arith, All, Contains, ltb-true, ltb-false, map-append, All-nil, All-push, Contains-append_left, Contains-append_right, all_pairs_push}
 use Rattle.mode_network.specs.NetworkLists.{NetworkLists}
 use Rattle.mode_network.proofs.RuleLemmas.{both}
-use Rattle.journey.specs.Best.{Asked}
-use Rattle.departures.specs.declared.row.Pair.{Pair}
-use Rattle.departures.specs.declared.row.Row.{Row}
-use Rattle.departures.specs.Departures.{IsPair, IsShorter, IsListed, AreDepartures, IsRow, pair_of, AreRows}
-use Rattle.departures.specs.inside.Searching.{IsPrintableRow, IsFirstRow, IsFirstRowFrom}
-use Rattle.departures.specs.inside.Listing.{next_moment, is_shorter, is_later_row, with_departure}
+use Rattle.journey.specs.{Asked}
+use Rattle.departures.specs.{Pair, Row, IsPair, IsShorter, IsListed, AreDepartures, IsRow, pair_of, AreRows, inside.IsPrintableRow, inside.IsFirstRow, inside.IsFirstRowFrom, inside.next_moment, inside.is_shorter, inside.is_later_row, inside.with_departure}
 use Rattle.latest_departure.proofs.OrderLemmas.{le_or_above}
-use Rattle.departures.proofs.OrderLemmas.{same_pair, not_before}
-use Rattle.departures.proofs.ListLemmas.{here}
+use Rattle.departures.proofs.{OrderLemmas.same_pair, OrderLemmas.not_before, ListLemmas.here}
 
 -- The rows so far are those of a window that closes when the search goes on, and what was found last departs then or later.
 pub record IsListing (n : NetworkLists) (q : Asked) (without : Option ℕ) (window : ℕ) (rows : List Row) (best : Option Row) : Type 0 where
@@ -230,9 +220,3 @@ module _ (n : NetworkLists) (q : Asked) (without : Option ℕ) where
           (λ p is late. not_worth (q.depart + so_far.span) row first next found (next_moment without row.pair - q.depart)
           (subst (IsListed n q without (next_moment without row.pair - q.depart)) (sym (only_row p is late)) is) e))
           so_far.printable
-
-  -- less of the window is left
-  pub left_less : (closes : ℕ) (row : Row) → next_moment without row.pair ≤ closes → (next : Option Row) → IsFirstRowFrom n q (next_moment without row.pair) next
-      → left_of closes next < left_of closes (Some row)
-  left_less closes row in_window None none = let after = after_departure without row.pair in omega arith
-  left_less closes row in_window (Some o) some = let after = after_departure without row.pair in let late = some.late in omega arith

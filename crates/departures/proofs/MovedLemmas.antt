@@ -1,18 +1,11 @@
 -- A journey without a ride takes the same time whenever it leaves.
-use Rattle.std.proofs.Common.{◌≡◌, ℕ, ◌+◌, ◌-◌, ◌≤◌, cond, List, [], ◌∷◌, Option, Some, None, refl, subst, arith}
-use Rattle.std.specs.List.{count_by}
-use Rattle.mode_network.specs.declared.steps.Step.{Step}
-use Rattle.mode_network.specs.declared.steps.Step.TheVariants.{Wait, Road, Link, Stand, Ride}
-use Rattle.mode_network.specs.NetworkLists.{NetworkLists}
-use Rattle.mode_network.specs.Journeys.{Route, AreSteps}
-use Rattle.journey.specs.Best.{Asked, Answers}
-use Rattle.few_boardings.specs.declared.boardings.Found.{Found}
-use Rattle.few_boardings.specs.Boardings.{is_ride, rides}
-use Rattle.few_boardings.specs.Rounds.{IsLeastBelow}
+use Rattle.plan_base.proofs.Common.{◌≡◌, ℕ, ◌+◌, ◌-◌, ◌≤◌, cond, List, [], ◌∷◌, Option, Some, None, refl, subst, arith, count_by}
+use Rattle.mode_network.specs.{Step, Wait, Link, Stand, Ride, Route, AreSteps, declared.steps.Step.TheVariants.Road, NetworkLists.NetworkLists}
+use Rattle.journey.specs.{Asked, Answers}
+use Rattle.few_boardings.specs.{Found, is_ride, rides, IsLeastBelow}
 use Rattle.few_boardings.proofs.RideLemmas.{rides_more}
-use Rattle.latest_departure.specs.inside.Forward.{leaving}
-use Rattle.departures.specs.Departures.{IsWithout}
-use Rattle.departures.specs.Laws.{IsAsLong, WithoutIsTheSame}
+use Rattle.latest_departure.specs.inside.{leaving}
+use Rattle.departures.specs.{IsWithout, IsAsLong, WithoutIsTheSame}
 
 -- a step that is no ride leaves the count
 rest_none : (step : Step) (steps : List Step) → count_by is_ride (step ∷ steps) ≡ 0 → count_by is_ride steps ≡ 0

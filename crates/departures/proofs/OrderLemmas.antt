@@ -1,11 +1,9 @@
 -- Pairs by their departures and arrivals, and what is as long as without a ride.
-use Rattle.std.proofs.Common.{◌≡◌, ℕ, ◌+◌, ◌-◌, ◌<◌, ◌≤◌, ◌⊎◌, Option, Some, None, inl, inr, ap₂, arith}
+use Rattle.plan_base.proofs.Common.{◌≡◌, ℕ, ◌+◌, ◌-◌, ◌<◌, ◌≤◌, ◌⊎◌, Option, Some, None, inl, inr, ap₂, arith}
 use Rattle.latest_departure.proofs.OrderLemmas.{le_or_above}
-use Rattle.departures.specs.declared.row.Pair.{Pair}
+use Rattle.departures.specs.{Pair, IsPair, IsShorter, IsAsLong}
 use Rattle.mode_network.specs.NetworkLists.{NetworkLists}
-use Rattle.journey.specs.Best.{Asked}
-use Rattle.departures.specs.Departures.{IsPair, IsShorter}
-use Rattle.departures.specs.Laws.{IsAsLong}
+use Rattle.journey.specs.{Asked}
 
 pub same_pair : (o p : Pair) → o.depart ≡ p.depart → o.arrive ≡ p.arrive → o ≡ p
 same_pair o p departs arrives = ap₂ (λ (d a : ℕ). let pair : Pair = record { depart = d; arrive = a } in pair) departs arrives

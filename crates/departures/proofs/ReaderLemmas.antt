@@ -1,25 +1,13 @@
 -- No journey that leaves within the window is better than what is listed.
-use Rattle.std.proofs.Common.{◌≡◌, ℕ, zero, suc, ◌+◌, ◌-◌, ◌<◌, ◌≤◌, ◌⊎◌, List, [], ◌∷◌, length, Option, Some, None, inl, inr, refl, ap, subst, arith}
-use Rattle.std.specs.Prelude.{Contains, slice_index_or}
-use Rattle.std.proofs.lemmas.List.Elements.{All-contains}
-use Rattle.std.proofs.lemmas.Option.{get_or_from_slice_get, slice_get_within}
-use Rattle.timetable_arcs.specs.declared.trips.Call.{Call}
-use Rattle.timetable_arcs.specs.Trips.{TripLists, IsRide, arrival_of, departure_of}
+use Rattle.plan_base.proofs.Common.{◌≡◌, ℕ, zero, suc, ◌+◌, ◌-◌, ◌<◌, ◌≤◌, ◌⊎◌, List, [], ◌∷◌, length, Option, Some, None, inl, inr, refl, ap, subst, arith, Contains, slice_index_or, All-contains, get_or_from_slice_get, slice_get_within}
+use Rattle.timetable_arcs.specs.{Call, TripLists, IsRide, arrival_of, departure_of}
 use Rattle.timetable_arcs.proofs.TripLemmas.{IsKeptTrip, trips_kept, on_later}
-use Rattle.mode_network.specs.declared.steps.Step.{Step}
-use Rattle.mode_network.specs.declared.steps.Step.TheVariants.{Wait, Road, Link, Stand, Ride}
-use Rattle.mode_network.specs.NetworkLists.{NetworkLists}
-use Rattle.mode_network.specs.Rules.{IsNetwork}
-use Rattle.mode_network.specs.Journeys.{Route, IsStep, AreSteps}
-use Rattle.journey.specs.Best.{Asked, Answers}
-use Rattle.few_boardings.specs.Boardings.{rides}
-use Rattle.departures.specs.declared.row.Pair.{Pair}
-use Rattle.departures.specs.Departures.{IsPair, IsUndominated, IsWithout, IsShorter, IsListed, AreDepartures}
-use Rattle.departures.specs.Laws.{first_from, IsAsLong, IsBeforeOthers, IsNoEarlier, DeparturesMissNothing}
+use Rattle.mode_network.specs.{Step, Wait, Link, Stand, Ride, IsNetwork, Route, IsStep, AreSteps, declared.steps.Step.TheVariants.Road, NetworkLists.NetworkLists}
+use Rattle.journey.specs.{Asked, Answers}
+use Rattle.few_boardings.specs.{rides}
+use Rattle.departures.specs.{Pair, IsPair, IsUndominated, IsWithout, IsShorter, IsListed, AreDepartures, first_from, IsAsLong, IsBeforeOthers, IsNoEarlier, DeparturesMissNothing}
 use Rattle.latest_departure.proofs.OrderLemmas.{le_or_above}
-use Rattle.departures.proofs.OrderLemmas.{shorter_or_long, long_or_not, long_around, same_or_less}
-use Rattle.departures.proofs.MovedLemmas.{without_long}
-use Rattle.departures.proofs.ListLemmas.{IsFirstFrom, is_first}
+use Rattle.departures.proofs.{OrderLemmas.shorter_or_long, OrderLemmas.long_or_not, OrderLemmas.long_around, OrderLemmas.same_or_less, MovedLemmas.without_long, ListLemmas.IsFirstFrom, ListLemmas.is_first}
 
 module _ (n : NetworkLists) (network : IsNetwork n) where
   -- a ride alights no earlier than it departs

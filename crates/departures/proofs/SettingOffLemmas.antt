@@ -1,23 +1,12 @@
 -- Steps without the waits before their first ride lead to the same end.
-use Rattle.std.proofs.Common.{◌≡◌, ℕ, suc, ◌+◌, ◌-◌, ◌*◌, ◌^◌, ◌<◌, ◌≤◌, Bool, true, false, ◌||◌, cond, List, [], ◌∷◌, ◌++◌, length, drop, drop-cons, add-one, append_assoc, Option, refl, sym, ap, ◌∙◌, subst, arith}
-use Rattle.std.specs.Prelude.{All, option_to_list, slice_index_or}
-use Rattle.std.specs.List.{count_by}
-use Rattle.std.proofs.lemmas.List.{drop_all}
-use Rattle.std.proofs.lemmas.List.Elements.{All-cons, All-tail}
-use Rattle.mode_network.specs.declared.steps.Step.{Step}
-use Rattle.mode_network.specs.declared.steps.Step.TheVariants.{Wait, Road, Link, Stand, Ride}
-use Rattle.mode_network.specs.NetworkLists.{NetworkLists}
-use Rattle.mode_network.specs.Rules.{IsNetwork}
-use Rattle.mode_network.specs.Journeys.{IsStep}
-use Rattle.search_laws.specs.Times.{time_bound}
-use Rattle.journey.specs.Boarded.{DepartsAt, AreOnTime}
-use Rattle.journey.specs.Ends.{HasTime}
-use Rattle.journey.specs.Rides.{KeepsRules}
+use Rattle.plan_base.proofs.Common.{◌≡◌, ℕ, suc, ◌+◌, ◌-◌, ◌*◌, ◌^◌, ◌<◌, ◌≤◌, Bool, true, false, cond, List, [], ◌∷◌, ◌++◌, length, drop, drop-cons, add-one, Option, refl, sym, ap, ◌∙◌, subst, arith, All, option_to_list, slice_index_or, count_by, drop_all, All-cons, All-tail}
+use Rattle.mode_network.specs.{Step, Wait, Link, Stand, Ride, IsNetwork, IsStep, declared.steps.Step.TheVariants.Road, NetworkLists.NetworkLists}
+use Rattle.search_laws.specs.{time_bound}
+use Rattle.journey.specs.{DepartsAt, AreOnTime, HasTime, KeepsRules}
 use Rattle.journey.proofs.StepLemmas.{step_once, step_in_time, on_time}
-use Rattle.few_boardings.specs.Boardings.{is_ride}
+use Rattle.few_boardings.specs.{is_ride}
 use Rattle.few_boardings.proofs.RideLemmas.{rides_more}
-use Rattle.departures.specs.Departures.{SetsOff}
-use Rattle.departures.specs.inside.SettingOff.{with_step_unless_wait, unwaited, waiting, MayLeaveLater}
+use Rattle.departures.specs.{SetsOff, inside.unwaited, inside.waiting, inside.MayLeaveLater}
 
 -- ---- what the steps are
 
@@ -56,23 +45,9 @@ abbrev pub rest_of : Bool → List Step → List Step
 rest_of true steps = steps
 rest_of false steps = unwaited steps
 
--- what is kept and what is left stay the same
-pub kept_more : (ridden : Bool) (step : Step) (steps kept : List Step)
-    → with_step_unless_wait ridden step kept ++ rest_of (ridden || is_ride step) steps ≡ kept ++ rest_of ridden (step ∷ steps)
-kept_more true step steps kept = append_assoc kept (step ∷ []) steps
-kept_more false (Wait until) steps kept = refl
-kept_more false (Road to) steps kept = append_assoc kept (Road to ∷ []) (unwaited steps)
-kept_more false (Link to) steps kept = append_assoc kept (Link to ∷ []) (unwaited steps)
-kept_more false Stand steps kept = append_assoc kept (Stand ∷ []) (unwaited steps)
-kept_more false (Ride trip day board alight) steps kept = append_assoc kept (Ride trip day board alight ∷ []) steps
-
 -- the first of the steps that are left
 pub left_with : (steps : List Step) (k : ℕ) (step : Step) → k < length steps → slice_index_or steps k step ≡ step → drop k steps ≡ step ∷ drop (k + 1) steps
 left_with steps k step lt is = drop-cons steps k step lt ∙ (ap (λ (x : Step). x ∷ drop (suc k) steps) is ∙ ap (λ i. step ∷ drop i steps) (sym (add-one k)))
-
-rest_nothing : (ridden : Bool) → rest_of ridden [] ≡ []
-rest_nothing true = refl
-rest_nothing false = refl
 
 -- ---- when they leave
 
@@ -127,14 +102,6 @@ module _ (n : NetworkLists) where
     pub before : at + waited ≤ time
     pub in_time : time < time_bound + k * 2 ^ 32
     pub leaves : (m : ℕ) → MayLeaveLater n node time (drop k steps) m → MayLeaveLater n start at steps (waited + m)
-
-  pub waiting_starts : (start at : ℕ) (steps : List Step) → at < time_bound → IsWaiting start at steps 0 start at 0
-  waiting_starts start at steps time = record {
-    soon = omega arith;
-    before = omega arith;
-    in_time = omega arith;
-    leaves = λ m may. (let same : m ≡ 0 + m = omega arith in subst (MayLeaveLater n start at steps) same may);
-  }
 
   pub waiting_more : KeepsRules n → (start at : ℕ) (steps : List Step) → All HasTime steps → (k node time waited : ℕ) (step : Step) → IsWaiting start at steps k node time waited
       → k < length steps → slice_index_or steps k step ≡ step → is_ride step ≡ false → (w u : ℕ) (c : Option ℕ) → IsStep n node time step w u c

@@ -1,14 +1,11 @@
 -- Behind the road arcs of a road node what has a letter stands still, in the network by least times too.
-use Rattle.std.proofs.Common.{◌≡◌, ℕ, ◌≤◌, ◌∙◌, Option, Some, None, false, inl, inr, List, refl, sym, ap}
-use Rattle.std.proofs.lemmas.Bool.{false≢true}
-use Rattle.search_laws.specs.Ways.{is_open}
-use Rattle.search_laws.specs.Fresh.{StandsStill}
-use Rattle.timetable_arcs.specs.Patterns.{TableLists}
-use Rattle.mode_network.specs.NetworkLists.{NetworkLists, letter_at}
-use Rattle.plain_graph.specs.PlainArcs.{plain_arc, count_from, arrival}
+use Rattle.plan_base.proofs.Common.{◌≡◌, ℕ, ◌≤◌, ◌∙◌, Option, Some, None, false, inl, inr, List, refl, sym, ap, false≢true}
+use Rattle.search_laws.specs.{is_open, StandsStill}
+use Rattle.timetable_arcs.specs.{TableLists}
+use Rattle.mode_network.specs.{NetworkLists.NetworkLists, letter_at}
+use Rattle.plain_graph.specs.{plain_arc, count_from, arrival}
 use Rattle.plain_graph.proofs.PlaceTies.{link_or_stand, past_roads_stand}
-use Rattle.departures.specs.declared.fastest.FastestCall.{FastestCall}
-use Rattle.departures.specs.LeastArcs.{least_arrival, least_meaning}
+use Rattle.departures.specs.{FastestCall, least_arrival, least_meaning}
 
 pub least_stand : (n : NetworkLists) (t : TableLists) (runs : List (List FastestCall)) (v time leaving : ℕ) → is_open leaving (letter_at n.roads v) ≡ false → (k at c : ℕ) → count_from n.arcs v ≤ k
     → (least_meaning n t runs).arrive v k time ≡ Some at → ((least_meaning n t runs).arc_at v k).letter ≡ Some c

@@ -1,10 +1,6 @@
 -- A fastest run takes no longer from call to call than its stretches.
-use Rattle.std.proofs.Common.{◌≡◌, ℕ, zero, suc, ◌+◌, ◌-◌, ◌^◌, ◌≤◌, List, [], ◌∷◌, refl, subst, arith}
-use Rattle.std.specs.Prelude.{min}
-use Rattle.departures.specs.declared.fastest.FastestCall.{FastestCall}
-use Rattle.departures.specs.declared.fastest.Stretch.{Stretch}
-use Rattle.departures.specs.Fastest.{fastest_call}
-use Rattle.departures.specs.inside.Stretches.{stretch_at, calls_from}
+use Rattle.plan_base.proofs.Common.{◌≡◌, ℕ, zero, suc, ◌+◌, ◌-◌, ◌^◌, ◌≤◌, List, [], ◌∷◌, refl, subst, arith, min}
+use Rattle.departures.specs.{FastestCall, fastest_call, declared.fastest.Stretch.Stretch, inside.stretch_at, inside.calls_from}
 
 -- it passes and rides to the call behind k no later than by the stretch there
 pub record IsNext (calls : List FastestCall) (stretch : Stretch) (k next : ℕ) : Type 0 where

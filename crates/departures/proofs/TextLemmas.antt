@@ -1,15 +1,9 @@
 -- The text of a block, row by row.
-use Rattle.std.proofs.Common.{◌≡◌, ℕ, ◌+◌, ◌<◌, List, [], ◌∷◌, ◌++◌, length, take, get_or, Option, Some, None, inr, refl, sym, ap, ◌∙◌, subst, arith, append_assoc, append-nil}
-use Rattle.std.specs.Prelude.{codes}
-use Rattle.std.proofs.lemmas.List.{take_more}
-use Rattle.plain_texts.specs.Lines.{with_feed}
+use Rattle.plan_base.proofs.Common.{◌≡◌, ℕ, ◌+◌, ◌<◌, List, [], ◌∷◌, ◌++◌, length, take, get_or, Option, inr, refl, sym, ap, ◌∙◌, subst, append_assoc, append-nil, take_more}
 use Rattle.mode_network.specs.NetworkLists.{NetworkLists}
-use Rattle.journey.specs.Best.{Asked, Asks}
-use Rattle.journey.specs.Blocks.{AddsText, IsFramed}
-use Rattle.latest_departure.specs.Blocks.{IsLateJourneyText}
-use Rattle.departures.specs.declared.row.Row.{Row}
-use Rattle.departures.specs.Departures.{IsWithout, AreRows}
-use Rattle.departures.specs.Blocks.{AreRowsTold, without_line, IsProfileText, IsProfileBlock}
+use Rattle.journey.specs.{Asked, Asks, AddsText, IsFramed}
+use Rattle.latest_departure.specs.{IsLateJourneyText}
+use Rattle.departures.specs.{Row, IsWithout, AreRows, AreRowsTold, IsProfileText, IsProfileBlock}
 
 module _ (n : NetworkLists) where
   -- one row more
@@ -37,27 +31,6 @@ module _ (n : NetworkLists) where
     is = (late.text, [], late.is, refl, refl);
     added = late.added ∙ ap (λ (t : List ℕ). old ++ t) (sym (append-nil late.text));
   }
-
-  -- the rows behind the line `without`, those of a block without it, and where there are none
-  pub after_line : (c : ℕ) (rows : List Row) (old now new : List ℕ) → now ≡ old ++ without_line c → AddsText (AreRowsTold n rows) now new → AddsText (IsProfileText n (Some c) rows) old new
-  after_line c rows old now new line told = record {
-    text = without_line c ++ told.text;
-    is = record { text = told.text; is = told.is; added = refl };
-    added = told.added ∙ ap (λ (t : List ℕ). t ++ told.text) line ∙ append_assoc old (without_line c) told.text;
-  }
-
-  pub rows_alone : (rows : List Row) (old new : List ℕ) → 0 < length rows → AddsText (AreRowsTold n rows) old new → AddsText (IsProfileText n None rows) old new
-  rows_alone [] old new some told = absurd (omega arith)
-  rows_alone (row ∷ rows) old new some told = record { text = told.text; is = told.is; added = told.added }
-
-  pub none_at_all : (rows : List Row) (old now new : List ℕ) → length rows ≡ 0 → now ≡ old ++ with_feed (codes "no journey") → AddsText (AreRowsTold n rows) now new
-      → AddsText (IsProfileText n None rows) old new
-  none_at_all [] old now new none line told = record {
-    text = with_feed (codes "no journey");
-    is = refl;
-    added = told.added ∙ ap (λ (t : List ℕ). now ++ t) told.is ∙ append-nil now ∙ line;
-  }
-  none_at_all (row ∷ rows) old now new none line told = absurd (omega arith)
 
   -- what was found is right to tell
   pub right_block : (line : List ℕ) (q : Asked) (window : ℕ) → Asks n line q → (without : Option ℕ) (rows : List Row) (block : List ℕ) → IsWithout n q without → AreRows n q without window rows

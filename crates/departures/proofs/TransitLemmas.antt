@@ -1,14 +1,10 @@
 -- An automaton that reads no letter of transit accepts no word with one.
-use Rattle.std.proofs.Common.{◌≡◌, ℕ, ◌<◌, ◌≤◌, ◌⊎◌, List, [], ◌∷◌, inl, inr, refl, subst, arith}
-use Rattle.std.specs.Prelude.{bit_and, IsBitSet}
-use Rattle.search_laws.specs.Letters.{transit_letters}
-use Rattle.search_laws.specs.LabelLaws.{LabelsMeaning, IsLawfulLabels, Reads, Accepts}
-use Rattle.automaton.specs.CollapsedLaws.{set_and, no_bits, transit_set, letter_below}
-use Rattle.few_boardings.specs.declared.counted.Side.TheVariants.{AtLeast}
-use Rattle.few_boardings.specs.Counted.{transits, counted, AcceptsCounted}
-use Rattle.few_boardings.specs.CountedLaws.{added_road}
+use Rattle.plan_base.proofs.Common.{◌≡◌, ℕ, ◌<◌, ◌≤◌, ◌⊎◌, List, [], ◌∷◌, inl, inr, refl, subst, arith, bit_and, IsBitSet}
+use Rattle.search_laws.specs.{transit_letters, LabelsMeaning, IsLawfulLabels, Reads, Accepts}
+use Rattle.automaton.specs.{set_and, no_bits, transit_set, letter_below}
+use Rattle.few_boardings.specs.{AtLeast, transits, counted, AcceptsCounted, added_road}
 use Rattle.few_boardings.proofs.CountedLemmas.{transits_more}
-use Rattle.departures.specs.inside.Transit.{IsTransit, ReadsNoTransit}
+use Rattle.departures.specs.inside.{IsTransit, ReadsNoTransit}
 use Rattle.latest_departure.proofs.OrderLemmas.{le_or_above}
 
 -- a set without the bits of the letters of transit has none of them

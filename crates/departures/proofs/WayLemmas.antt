@@ -1,8 +1,6 @@
 -- Ways by arcs of one letter.
-use Rattle.std.proofs.Common.{◌≡◌, ℕ, zero, suc, ◌+◌, ◌-◌, ◌<◌, ◌≤◌, ◌∙◌, ◌++◌, List, [], false, refl, sym, ap, append_assoc, arith}
-use Rattle.search_laws.specs.GraphLaws.{GraphMeaning}
-use Rattle.search_laws.specs.Ways.{is_open, ways_from}
-use Rattle.search_laws.specs.declared.graph.Way.{Way}
+use Rattle.plan_base.proofs.Common.{◌≡◌, ℕ, zero, suc, ◌+◌, ◌-◌, ◌<◌, ◌≤◌, ◌∙◌, ◌++◌, List, [], false, refl, sym, ap, append_assoc, arith}
+use Rattle.search_laws.specs.{GraphMeaning, is_open, ways_from, Way}
 use Rattle.search_laws.proofs.WayLemmas.{ways_split}
 
 module _ (g : GraphMeaning) (v t letters : ℕ) where

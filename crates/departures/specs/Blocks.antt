@@ -1,13 +1,10 @@
 -- The block of a query line that asks for the departures of a window.
-use Rattle.std.specs.Prelude.{◌≡◌, ℕ, List, [], ◌∷◌, ◌++◌, Option, Some, None, codes}
-use Rattle.std.specs.Fmt.{decimal}
-use Rattle.plain_texts.specs.Lines.{with_feed}
+use Rattle.std.specs.Prelude.{◌≡◌, ℕ, List, [], ◌∷◌, ◌++◌, Option, Some, None, codes, decimal}
+use Rattle.plain_texts.specs.{with_feed}
 use Rattle.mode_network.specs.NetworkLists.{NetworkLists}
-use Rattle.journey.specs.Best.{Asked, IsRightBlock}
-use Rattle.journey.specs.Blocks.{AddsText}
-use Rattle.latest_departure.specs.Blocks.{IsLateJourneyText}
-use Rattle.departures.specs.declared.row.Row.{Row}
-use Rattle.departures.specs.Departures.{IsWithout, AreRows}
+use Rattle.journey.specs.{Asked, IsRightBlock, AddsText}
+use Rattle.latest_departure.specs.{IsLateJourneyText}
+use Rattle.departures.specs.{declared.row.Row.Row, Departures.IsWithout, Departures.AreRows}
 
 -- of each row the line `depart`, and what any block prints of its journey
 abbrev pub AreRowsTold : NetworkLists → List Row → List ℕ → Type 0

@@ -1,14 +1,9 @@
 -- The departures of a window that are worth listing.
 use Rattle.std.specs.Prelude.{◌≡◌, ℕ, ◌+◌, ◌<◌, ◌≤◌, List, [], ◌∷◌, map, All, AllPairs, Contains, Option, Some, None}
-use Rattle.mode_network.specs.declared.steps.Step.{Step}
-use Rattle.mode_network.specs.declared.steps.Step.TheVariants.{Wait, Road, Link, Stand, Ride}
-use Rattle.mode_network.specs.NetworkLists.{NetworkLists}
-use Rattle.mode_network.specs.Journeys.{Route}
-use Rattle.journey.specs.Best.{Asked, Answers}
-use Rattle.journey.specs.Boarded.{BoardsOnTime}
-use Rattle.few_boardings.specs.Boardings.{rides}
-use Rattle.departures.specs.declared.row.Pair.{Pair}
-use Rattle.departures.specs.declared.row.Row.{Row}
+use Rattle.mode_network.specs.{Step, Wait, Link, Stand, Ride, Route, declared.steps.Step.TheVariants.Road, NetworkLists.NetworkLists}
+use Rattle.journey.specs.{Asked, Answers, BoardsOnTime}
+use Rattle.few_boardings.specs.{rides}
+pub use Rattle.departures.specs.{declared.row.Pair.Pair, declared.row.Row.Row}
 
 -- the journey answers, departs and arrives so, and has a ride among its steps
 pub record IsRidden (n : NetworkLists) (q : Asked) (p : Pair) (j : Route) : Type 0 where

@@ -1,9 +1,7 @@
 -- How long rides take at least.
 use Rattle.std.specs.Prelude.{ℕ, ◌+◌, ◌-◌, ◌*◌, ◌<◌, ◌≤◌, List, [], length, slice_index_or}
-use Rattle.timetable_arcs.specs.declared.trips.Instance.{Instance}
-use Rattle.timetable_arcs.specs.declared.rides.Ride.{Ride}
-use Rattle.timetable_arcs.specs.Patterns.{TableLists, IsIn, trip_at, arrives, departs}
-use Rattle.departures.specs.declared.fastest.FastestCall.{FastestCall}
+use Rattle.timetable_arcs.specs.{Instance, Ride, TableLists, IsIn, trip_at, arrives, departs}
+pub use Rattle.departures.specs.declared.fastest.FastestCall.{FastestCall}
 
 abbrev pub no_time : FastestCall
 no_time = record { arrive = 0; depart = 0 }

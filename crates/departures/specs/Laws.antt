@@ -1,11 +1,8 @@
 -- Laws of the departures of a window.
 use Rattle.std.specs.Prelude.{◌≡◌, ℕ, ◌+◌, ◌<◌, ◌≤◌, ◌⊎◌, nat_le, List, [], ◌∷◌, Option, Some, None, if◌then◌else◌}
-use Rattle.mode_network.specs.NetworkLists.{NetworkLists}
-use Rattle.mode_network.specs.Journeys.{Route}
-use Rattle.journey.specs.Rides.{KeepsRules}
-use Rattle.journey.specs.Best.{Asked, Answers}
-use Rattle.departures.specs.declared.row.Pair.{Pair}
-use Rattle.departures.specs.Departures.{IsPair, IsWithout, AreDepartures}
+use Rattle.mode_network.specs.{NetworkLists.NetworkLists, Route}
+use Rattle.journey.specs.{KeepsRules, Asked, Answers}
+use Rattle.departures.specs.{declared.row.Pair.Pair, Departures.IsPair, Departures.IsWithout, Departures.AreDepartures}
 
 -- there is one time that it takes without a ride, and one list of departures
 abbrev pub DeparturesAreUnique : Type 0

@@ -1,13 +1,10 @@
 -- The network in which nobody waits for a ride, and each ride takes as long as it does at least, as a graph.
 use Rattle.std.specs.Prelude.{ℕ, ◌+◌, List, length, Option, Some}
-use Rattle.search_laws.specs.GraphLaws.{GraphMeaning}
-use Rattle.timetable_arcs.specs.Patterns.{TableLists}
-use Rattle.mode_network.specs.NetworkLists.{NetworkLists, nodes_of}
-use Rattle.plain_graph.specs.declared.plain.PlainArc.{PlainArc}
-use Rattle.plain_graph.specs.declared.plain.PlainArc.TheVariants.{Road, Link, Stand, Ride}
-use Rattle.plain_graph.specs.PlainArcs.{plain_arc, graph_arc, arcs_at}
-use Rattle.departures.specs.declared.fastest.FastestCall.{FastestCall}
-use Rattle.departures.specs.Fastest.{least_ms}
+use Rattle.search_laws.specs.{GraphMeaning}
+use Rattle.timetable_arcs.specs.{TableLists}
+use Rattle.mode_network.specs.{NetworkLists.NetworkLists, nodes_of}
+use Rattle.plain_graph.specs.{PlainArc, Road, Link, Stand, Ride, plain_arc, graph_arc, arcs_at}
+use Rattle.departures.specs.{declared.fastest.FastestCall.FastestCall, Fastest.least_ms}
 
 -- when an arc arrives that is taken at a time
 abbrev pub least_arrival : List (List FastestCall) → ℕ → PlainArc → Option ℕ

@@ -1,10 +1,10 @@
 //! How long rides take at least.
 
-ghost use Rattle.std.specs.Prelude.{◌≡◌, ◌<◌, ◌-◌, ◌*◌, ◌^◌, ℕ, length, IfOk};
+ghost use Rattle.std.specs.Prelude.{◌≡◌, ◌<◌, ◌-◌, ◌*◌, ◌^◌, length, IfOk};
 ghost use Rattle.timetable_arcs.specs.declared.trips.Instance.{Instance};
 ghost use Rattle.timetable_arcs.specs.Patterns.{IsIn, trip_at};
 ghost use Rattle.departures.specs.Fastest.{NoneIsFaster, fastest_call};
-ghost use Rattle.departures.specs.inside.Stretches.{stretch_at, shortened, AreShortened, FitBetweenCalls, calls_from};
+ghost use Rattle.departures.specs.inside.Stretches.{shortened, AreShortened, FitBetweenCalls, calls_from};
 
 use std::alloc::{AllocError, Global};
 use std::marker::Model;

@@ -1,13 +1,8 @@
 -- The counting automaton accepts the words that the inner one accepts and whose transit letters are on its side of the limit.
-use Rattle.std.proofs.Common.{◌≡◌, ℕ, ◌+◌, ◌*◌, ◌/◌, ◌%◌, ◌<◌, ◌≤◌, true, ◌==◌, cond, IsTrue, List, [], ◌∷◌, refl, sym, ap, ◌∙◌, subst, arith}
-use Rattle.std.proofs.lemmas.Bool.Decides.{nat_tests}
-use Rattle.std.proofs.lemmas.List.Sums.{sum_by-cons}
-use Rattle.search_laws.specs.LabelLaws.{LabelsMeaning, IsLawfulLabels, HasMove, Reads, Accepts}
+use Rattle.plan_base.proofs.Common.{◌≡◌, ℕ, ◌+◌, ◌*◌, ◌/◌, ◌%◌, ◌<◌, ◌≤◌, true, ◌==◌, cond, IsTrue, List, [], ◌∷◌, refl, sym, ap, ◌∙◌, subst, arith, nat_tests, sum_by-cons}
+use Rattle.search_laws.specs.{LabelsMeaning, IsLawfulLabels, HasMove, Reads, Accepts}
 use Rattle.automaton.proofs.LanguageLemmas.{and_in, and_out}
-use Rattle.few_boardings.specs.declared.counted.Side.{Side}
-use Rattle.few_boardings.specs.declared.counted.Side.TheVariants.{AtMost, AtLeast}
-use Rattle.few_boardings.specs.Counted.{is_transit, transits, state_at, reads_on, may_end_with, counted, IsOnSide, AcceptsCounted}
-use Rattle.few_boardings.specs.CountedLaws.{added, inner_of, count_of, count_small, state_below, inner_below, count_after, after_small, KeepsWithin, inner_after, count_there, step_out, step_in, to_below}
+use Rattle.few_boardings.specs.{Side, AtMost, AtLeast, is_transit, transits, state_at, reads_on, may_end_with, counted, IsOnSide, AcceptsCounted, added, inner_of, count_of, count_small, state_below, inner_below, count_after, after_small, KeepsWithin, inner_after, count_there, step_out, step_in, to_below}
 
 pub transits_more : (c : ℕ) (word : List ℕ) → transits (c ∷ word) ≡ added c + transits word
 transits_more c word = sum_by-cons (λ (d : ℕ). cond (is_transit d) 1 0) c word

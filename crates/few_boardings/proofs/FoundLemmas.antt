@@ -1,35 +1,17 @@
 -- What a search over the counting automaton finds is a least arrival with few rides.
-use Rattle.std.proofs.Common.{ℕ, ◌+◌, ◌^◌, ◌<◌, ◌≤◌, List, Option, Some, None, sym, subst, arith}
-use Rattle.std.specs.Prelude.{◌↔◌}
-use Rattle.search_laws.specs.LabelLaws.{LabelsMeaning, IsLawfulLabels, Accepts}
-use Rattle.search_laws.specs.Walks.{ArrivesAt, IsLeast}
-use Rattle.search_laws.specs.Collapse.{collapse}
-use Rattle.product_search.specs.declared.label.Walk.{Walk}
-use Rattle.product_search.specs.Answer.{IsArrival, IsWalkTo, IsWalkFor}
-use Rattle.automaton.specs.Collapsed.{collapsed, FitsCollapsed}
-use Rattle.automaton.specs.CollapsedLaws.{collapsed_lawful}
-use Rattle.automaton.specs.Languages.{CollapsedPositionsAccept}
-use Rattle.automaton.specs.Written.{written}
-use Rattle.automaton.specs.States.{IsPositionAutomaton}
-use Rattle.plain_graph.specs.PlainArcs.{plain_meaning}
-use Rattle.plain_graph.specs.Simulation.{JourneysAreWalks}
-use Rattle.mode_expression.specs.Form.{Form, IsUsable, IsWordOf}
-use Rattle.timetable_arcs.specs.Patterns.{TableLists}
-use Rattle.mode_network.specs.NetworkLists.{NetworkLists}
-use Rattle.mode_network.specs.Rules.{IsNetwork}
-use Rattle.mode_network.specs.Journeys.{Route}
-use Rattle.journey.specs.Best.{Asked, Answers}
-use Rattle.journey.specs.CopyLists.{AreTheCopies}
-use Rattle.unpack.specs.Unpacking.{node_after, arrival_after, letters_of}
+use Rattle.plan_base.proofs.Common.{ℕ, ◌+◌, ◌^◌, ◌<◌, ◌≤◌, List, Option, Some, None, sym, subst, arith, ◌↔◌}
+use Rattle.search_laws.specs.{LabelsMeaning, IsLawfulLabels, Accepts, ArrivesAt, IsLeast, collapse}
+use Rattle.product_search.specs.{Walk, IsArrival, IsWalkTo, IsWalkFor}
+use Rattle.automaton.specs.{collapsed, FitsCollapsed, collapsed_lawful, CollapsedPositionsAccept, written, IsPositionAutomaton}
+use Rattle.plain_graph.specs.{plain_meaning, JourneysAreWalks}
+use Rattle.mode_expression.specs.{Form.Form, IsUsable, IsWordOf}
+use Rattle.timetable_arcs.specs.{TableLists}
+use Rattle.mode_network.specs.{NetworkLists.NetworkLists, IsNetwork, Route}
+use Rattle.journey.specs.{Asked, Answers, AreTheCopies}
+use Rattle.unpack.specs.{node_after, arrival_after, letters_of}
 use Rattle.unpack.proofs.TakenLemmas as taken
-use Rattle.few_boardings.specs.declared.counted.Side.{Side}
-use Rattle.few_boardings.specs.declared.counted.Side.TheVariants.{AtMost}
-use Rattle.few_boardings.specs.Counted.{counted, transits, IsOnSide}
-use Rattle.few_boardings.specs.Boardings.{rides}
-use Rattle.few_boardings.specs.Rounds.{IsLeastBelow, IsFoundUnpacked, IsCountedFor}
-use Rattle.few_boardings.specs.declared.boardings.Found.{Found}
-use Rattle.few_boardings.proofs.CountedLemmas.{accepts_counted}
-use Rattle.few_boardings.proofs.RideLemmas.{letters_count}
+use Rattle.few_boardings.specs.{Side, AtMost, counted, transits, IsOnSide, rides, IsLeastBelow, IsFoundUnpacked, IsCountedFor, Found}
+use Rattle.few_boardings.proofs.{CountedLemmas.accepts_counted, RideLemmas.letters_count}
 
 -- the automaton accepts the words whose transit letters are on that side of the limit, and whose collapse the form denotes
 abbrev pub IsCountingOf : Form → LabelsMeaning → Side → ℕ → Type 0

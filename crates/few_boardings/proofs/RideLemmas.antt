@@ -1,22 +1,10 @@
 -- A journey has as many rides as its letters have transit letters.
-use Rattle.std.proofs.Common.{◌≡◌, ℕ, ◌+◌, ◌^◌, ◌≤◌, ◌&&◌, nat_le, nat_lt, cond, length, slice_get, List, [], ◌∷◌, ◌++◌, Option, Some, None, refl, sym, ap, ◌∙◌, subst, arith}
-use Rattle.std.specs.Prelude.{option_to_list}
-use Rattle.std.specs.List.{count_by, list_all}
-use Rattle.std.proofs.lemmas.Bool.{leb-true}
-use Rattle.std.proofs.lemmas.List.Sums.{sum_by-cons}
-use Rattle.std.proofs.lemmas.Option.{get_or_from_slice_get, slice_get_within}
-use Rattle.timetable_arcs.specs.Trips.{TripLists}
-use Rattle.timetable_arcs.specs.TripRules.{is_early}
+use Rattle.plan_base.proofs.Common.{◌≡◌, ℕ, ◌+◌, ◌^◌, ◌≤◌, ◌&&◌, nat_le, nat_lt, cond, length, slice_get, List, [], ◌∷◌, ◌++◌, Option, Some, None, refl, sym, ap, ◌∙◌, subst, arith, option_to_list, count_by, list_all, leb-true, sum_by-cons, get_or_from_slice_get, slice_get_within}
+use Rattle.timetable_arcs.specs.{TripLists, is_early}
 use Rattle.timetable_arcs.proofs.TripLemmas.{IsKeptTrip, trips_kept}
-use Rattle.mode_network.specs.declared.steps.Step.{Step}
-use Rattle.mode_network.specs.declared.steps.Step.TheVariants.{Wait, Road, Link, Stand, Ride}
-use Rattle.mode_network.specs.NetworkLists.{NetworkLists, letter_at}
-use Rattle.mode_network.specs.Rules.{IsNetwork}
-use Rattle.mode_network.specs.Journeys.{IsStep, AreSteps}
+use Rattle.mode_network.specs.{Step, Wait, Link, Stand, Ride, letter_at, IsNetwork, IsStep, AreSteps, declared.steps.Step.TheVariants.Road, NetworkLists.NetworkLists}
 use Rattle.mode_network.proofs.RuleLemmas.{both, letter_is_road}
-use Rattle.few_boardings.specs.Counted.{transits}
-use Rattle.few_boardings.specs.CountedLaws.{added, added_road, added_transit}
-use Rattle.few_boardings.specs.Boardings.{is_ride}
+use Rattle.few_boardings.specs.{transits, added, added_road, added_transit, is_ride}
 use Rattle.few_boardings.proofs.CountedLemmas.{transits_more}
 
 pub rides_more : (step : Step) (steps : List Step) → count_by is_ride (step ∷ steps) ≡ cond (is_ride step) 1 0 + count_by is_ride steps

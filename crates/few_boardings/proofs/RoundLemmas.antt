@@ -1,16 +1,8 @@
 -- The rounds of the search make the boardings list.
-use Rattle.std.proofs.Common.{◌≡◌, ℕ, ◌<◌, ◌≤◌, ◌⊎◌, Bool, true, false, cond, List, [], ◌∷◌, length, Option, Some, None, inl, inr, refl, sym, ap, subst, arith}
-use Rattle.std.specs.Prelude.{All, AllPairs, Contains, IfSome, ◌↔◌}
-use Rattle.std.proofs.lemmas.Bool.{cases_lt, ltb-false, ltb-true}
-use Rattle.std.proofs.lemmas.List.Elements.{All-nil, All-cons, All-contains, Contains-append_left, Contains-append_right}
-use Rattle.std.proofs.lemmas.List.Kept.{AllPairs-cons}
-use Rattle.mode_network.specs.NetworkLists.{NetworkLists}
-use Rattle.mode_network.specs.Journeys.{Route}
-use Rattle.journey.specs.Best.{Asked, Answers}
-use Rattle.few_boardings.specs.declared.boardings.FewRow.{FewRow}
-use Rattle.few_boardings.specs.declared.boardings.Found.{Found}
-use Rattle.few_boardings.specs.Boardings.{rides, IsListedArrival, IsFewRow, AreFewRows, HasNoneByFew, IsPrintableFewRow}
-use Rattle.few_boardings.specs.Rounds.{IsLeastFound, IsLeastBelow, is_later, with_fewer_rides, HasRowAsGood, IsOpen, AreRowsSoFar}
+use Rattle.plan_base.proofs.Common.{◌≡◌, ℕ, ◌<◌, ◌≤◌, ◌⊎◌, Bool, true, false, cond, List, [], ◌∷◌, length, Option, Some, None, inl, inr, refl, sym, ap, subst, arith, All, AllPairs, Contains, IfSome, ◌↔◌, cases_lt, ltb-false, ltb-true, All-nil, All-cons, All-contains, Contains-append_left, Contains-append_right, AllPairs-cons}
+use Rattle.mode_network.specs.{NetworkLists.NetworkLists, Route}
+use Rattle.journey.specs.{Asked, Answers}
+use Rattle.few_boardings.specs.{FewRow, Found, rides, IsListedArrival, IsFewRow, AreFewRows, HasNoneByFew, IsPrintableFewRow, IsLeastFound, IsLeastBelow, is_later, with_fewer_rides, HasRowAsGood, IsOpen, AreRowsSoFar}
 
 first_of_all : (row : FewRow) (rows : List FewRow) → Contains (row ∷ rows) row
 first_of_all row rows = Contains-append_left (row ∷ []) rows row (0, omega arith, refl)

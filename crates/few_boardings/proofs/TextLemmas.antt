@@ -1,14 +1,9 @@
 -- The text of a boardings list, row by row.
-use Rattle.std.proofs.Common.{◌≡◌, ℕ, ◌+◌, ◌<◌, List, [], ◌∷◌, ◌++◌, length, take, get_or, refl, sym, ap, ◌∙◌, subst, arith}
-use Rattle.std.specs.Prelude.{codes}
-use Rattle.std.specs.Fmt.{decimal}
-use Rattle.std.proofs.lemmas.List.{append_assoc, append-nil, take_more}
-use Rattle.plain_texts.specs.Lines.{with_feed}
+use Rattle.plan_base.proofs.Common.{◌≡◌, ℕ, ◌+◌, ◌<◌, List, [], ◌∷◌, ◌++◌, length, take, get_or, refl, sym, ap, ◌∙◌, subst, codes, decimal, append_assoc, append-nil, take_more}
+use Rattle.plain_texts.specs.{with_feed}
 use Rattle.mode_network.specs.NetworkLists.{NetworkLists}
-use Rattle.journey.specs.Blocks.{AddsText}
-use Rattle.journey.specs.Texts.{IsJourneyText}
-use Rattle.few_boardings.specs.declared.boardings.FewRow.{FewRow}
-use Rattle.few_boardings.specs.Blocks.{AreBoardingsTold, IsFewText}
+use Rattle.journey.specs.{AddsText, IsJourneyText}
+use Rattle.few_boardings.specs.{FewRow, AreBoardingsTold}
 
 module _ (n : NetworkLists) where
   -- one row more
@@ -43,11 +38,3 @@ module _ (n : NetworkLists) where
       start : three ≡ old ++ with_feed (codes "boardings " ++ decimal row.boardings)
       start = c ∙ ap (λ (t : List ℕ). t ++ 10 ∷ []) (b ∙ ap (λ (t : List ℕ). t ++ decimal row.boardings) a ∙ append_assoc old (codes "boardings ") (decimal row.boardings))
           ∙ append_assoc old (codes "boardings " ++ decimal row.boardings) (10 ∷ [])
-
-  pub told_as_few : (rows : List FewRow) (old new : List ℕ) → 0 < length rows → AddsText (AreBoardingsTold n rows) old new → AddsText (IsFewText n rows) old new
-  told_as_few [] old new some told = absurd (omega arith)
-  told_as_few (row ∷ rows) old new some told = record { text = told.text; is = told.is; added = told.added }
-
-  pub none_as_few : (rows : List FewRow) (old new : List ℕ) → length rows ≡ 0 → new ≡ old ++ with_feed (codes "no journey") → AddsText (IsFewText n rows) old new
-  none_as_few [] old new none e = record { text = with_feed (codes "no journey"); is = refl; added = e }
-  none_as_few (row ∷ rows) old new none e = absurd (omega arith)

@@ -1,12 +1,9 @@
 -- The block of a query line that asks for the journeys that are worth their boardings.
-use Rattle.std.specs.Prelude.{◌≡◌, ℕ, List, [], ◌∷◌, ◌++◌, codes}
-use Rattle.std.specs.Fmt.{decimal}
-use Rattle.plain_texts.specs.Lines.{with_feed}
+use Rattle.std.specs.Prelude.{◌≡◌, ℕ, List, [], ◌∷◌, ◌++◌, codes, decimal}
+use Rattle.plain_texts.specs.{with_feed}
 use Rattle.mode_network.specs.NetworkLists.{NetworkLists}
-use Rattle.journey.specs.Best.{Asked, IsRightBlock}
-use Rattle.journey.specs.Texts.{IsJourneyText}
-use Rattle.few_boardings.specs.declared.boardings.FewRow.{FewRow}
-use Rattle.few_boardings.specs.Boardings.{AreFewRows}
+use Rattle.journey.specs.{Asked, IsRightBlock, IsJourneyText}
+use Rattle.few_boardings.specs.{declared.boardings.FewRow.FewRow, Boardings.AreFewRows}
 
 -- of each row the line `boardings` with its number, and what is printed of its journey
 abbrev pub AreBoardingsTold : NetworkLists → List FewRow → List ℕ → Type 0

@@ -1,14 +1,8 @@
 -- The journeys that are worth their boardings.
-use Rattle.std.specs.Prelude.{◌≡◌, ℕ, ◌<◌, ◌≤◌, Bool, true, false, List, All, AllPairs, Contains}
-use Rattle.std.specs.List.{count_by}
-use Rattle.mode_network.specs.declared.steps.Step.{Step}
-use Rattle.mode_network.specs.declared.steps.Step.TheVariants.{Wait, Road, Link, Stand, Ride}
-use Rattle.mode_network.specs.NetworkLists.{NetworkLists}
-use Rattle.mode_network.specs.Journeys.{Route}
-use Rattle.journey.specs.Best.{Asked, Answers}
-use Rattle.journey.specs.Boarded.{BoardsOnTime}
-use Rattle.journey.specs.Blocks.{IsPrintable}
-use Rattle.few_boardings.specs.declared.boardings.FewRow.{FewRow}
+use Rattle.std.specs.Prelude.{◌≡◌, ℕ, ◌<◌, ◌≤◌, Bool, true, false, List, All, AllPairs, Contains, count_by}
+use Rattle.mode_network.specs.{Step, Wait, Link, Stand, Ride, Route, declared.steps.Step.TheVariants.Road, NetworkLists.NetworkLists}
+use Rattle.journey.specs.{Asked, Answers, BoardsOnTime, IsPrintable}
+pub use Rattle.few_boardings.specs.declared.boardings.FewRow.{FewRow}
 
 abbrev pub is_ride : Step → Bool
 is_ride (Wait until) = false

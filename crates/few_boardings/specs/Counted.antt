@@ -1,11 +1,7 @@
 -- An automaton that counts transit letters.
-use Rattle.std.specs.Prelude.{ℕ, ◌+◌, ◌*◌, ◌/◌, ◌%◌, ◌^◌, ◌<◌, ◌≤◌, ◌&&◌, ◌==◌, ◌↔◌, Bool, true, false, nat_lt, nat_le, List, bit_and, if◌then◌else◌}
-use Rattle.std.specs.List.{count_by}
-use Rattle.search_laws.specs.Letters.{transit_letters}
-use Rattle.search_laws.specs.declared.labels.Move.{Move}
-use Rattle.search_laws.specs.LabelLaws.{LabelsMeaning, Accepts}
-use Rattle.few_boardings.specs.declared.counted.Side.{Side}
-use Rattle.few_boardings.specs.declared.counted.Side.TheVariants.{AtMost, AtLeast}
+use Rattle.std.specs.Prelude.{ℕ, ◌+◌, ◌*◌, ◌/◌, ◌%◌, ◌^◌, ◌<◌, ◌≤◌, ◌&&◌, ◌==◌, ◌↔◌, Bool, true, false, nat_lt, nat_le, List, bit_and, if◌then◌else◌, count_by}
+use Rattle.search_laws.specs.{transit_letters, Move, LabelsMeaning, Accepts}
+pub use Rattle.few_boardings.specs.{declared.counted.Side.Side, declared.counted.Side.TheVariants.AtMost, declared.counted.Side.TheVariants.AtLeast}
 
 -- a letter from tram on
 abbrev pub is_transit : ℕ → Bool

@@ -1,16 +1,14 @@
 -- The counting automaton keeps the laws of automata, and those of road letters where the inner one does. These are proofs, which a
 -- ghost field and ghost members of its type cite; nothing is defined here that a contract means.
-use Rattle.std.proofs.Common.{◌≡◌, ◌≢◌, ℕ, ◌+◌, ◌*◌, ◌/◌, ◌%◌, ◌<◌, ◌≤◌, Bool, true, false, min, ◌==◌, nat_lt, nat_le, bit_and, IsBitSet, if◌then◌else◌, refl, sym, ap, ◌∙◌, subst, lit<, arith}
+use Rattle.std.specs.Prelude.{◌≡◌, ◌≢◌, ℕ, ◌+◌, ◌*◌, ◌/◌, ◌%◌, ◌<◌, ◌≤◌, Bool, true, false, min, ◌==◌, nat_lt, nat_le, bit_and, IsBitSet, if◌then◌else◌, refl}
+use Rattle.std.proofs.Common.{sym, ap, ◌∙◌, subst, lit<, arith}
 use Rattle.std.proofs.lemmas.Bool.Decides.{nat_tests}
 use Rattle.std.proofs.lemmas.Nat.{and_le_l, div-mul-add, mod-mul-add, div-add-mod', mul-add-lt}
 use Rattle.std.proofs.lemmas.Nat.Bits.{bit_at_mask_inside, bit_at_above}
 use Rattle.std.proofs.Math.Nat.{mul_comm, div-lt_iff_lt-mul}
-use Rattle.search_laws.specs.Letters.{IsLetterSet, transit_letters}
-use Rattle.search_laws.specs.declared.labels.Move.{Move}
-use Rattle.search_laws.specs.LabelLaws.{LabelsMeaning, IsLawfulLabels, IsMove, HasMove, IsRoadLabels}
-use Rattle.automaton.specs.CollapsedLaws.{set_bit, bit_set, and_set, set_and, no_bits, letter_below, transit_set, set_transit}
-use Rattle.few_boardings.specs.declared.counted.Side.{Side}
-use Rattle.few_boardings.specs.Counted.{is_transit, state_at, reads_on, counted_move, counted, FitsCounted}
+use Rattle.search_laws.specs.{IsLetterSet, transit_letters, Move, LabelsMeaning, IsLawfulLabels, IsMove, HasMove, IsRoadLabels}
+use Rattle.automaton.specs.{set_bit, bit_set, and_set, set_and, no_bits, letter_below, transit_set, set_transit}
+use Rattle.few_boardings.specs.{declared.counted.Side.Side, Counted.is_transit, Counted.state_at, Counted.reads_on, Counted.counted_move, Counted.counted, Counted.FitsCounted}
 
 -- what a letter adds to the count
 abbrev pub added : ℕ → ℕ

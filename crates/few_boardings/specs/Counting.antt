@@ -1,8 +1,7 @@
 -- What is made to count the rides of an expression's words.
 use Rattle.std.specs.Prelude.{◌≡◌, ℕ}
-use Rattle.search_laws.specs.LabelLaws.{LabelsMeaning}
-use Rattle.automaton.specs.Written.{written}
-use Rattle.automaton.specs.States.{IsPositionAutomaton}
+use Rattle.search_laws.specs.{LabelsMeaning}
+use Rattle.automaton.specs.{written, IsPositionAutomaton}
 use Rattle.mode_expression.specs.Form.{Form}
 use Rattle.few_boardings.specs.declared.counted.Side.{Side}
 

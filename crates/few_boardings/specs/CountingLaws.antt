@@ -1,15 +1,13 @@
 -- What is known to count is seen to. These are proofs, which a ghost member cites; nothing is defined here that a contract means.
-use Rattle.std.proofs.Common.{◌≡◌, ℕ, refl, ap}
+use Rattle.std.specs.Prelude.{◌≡◌, ℕ, refl}
+use Rattle.std.proofs.Common.{ap}
 use Rattle.std.proofs.Props.{props}
 use Rattle.std.proofs.Math.Logic.{∥∥₁_elim, ∥∥₁_map}
-use Rattle.search_laws.specs.LabelLaws.{LabelsMeaning}
-use Rattle.automaton.specs.Written.{written}
+use Rattle.search_laws.specs.{LabelsMeaning}
+use Rattle.automaton.specs.{written}
 use Rattle.mode_expression.specs.Form.{Form}
-use Rattle.kept_automata.specs.KnownLaws.{known_positions}
-use Rattle.few_boardings.specs.declared.counted.Side.{Side}
-use Rattle.few_boardings.specs.declared.counted.Side.TheVariants.{AtMost, AtLeast}
-use Rattle.few_boardings.specs.Counted.{reads_on}
-use Rattle.few_boardings.specs.Counting.{IsCountingFor}
+use Rattle.kept_automata.specs.{known_positions}
+use Rattle.few_boardings.specs.{declared.counted.Side.Side, declared.counted.Side.TheVariants.AtMost, declared.counted.Side.TheVariants.AtLeast, Counted.reads_on, Counting.IsCountingFor}
 
 same_side : (a b : Side) → reads_on a ≡ reads_on b → a ≡ b
 same_side AtMost AtMost e = refl

@@ -1,15 +1,12 @@
 -- What stands between the rounds of the search for the boardings list.
 use Rattle.std.specs.Prelude.{◌≡◌, ℕ, min, ◌+◌, ◌<◌, ◌≤◌, ◌⊎◌, Bool, true, nat_lt, List, ◌∷◌, All, AllPairs, Contains, Option, Some, None, IfSome, if◌then◌else◌}
-use Rattle.timetable_arcs.specs.Patterns.{TableLists}
-use Rattle.product_search.specs.declared.label.Walk.{Walk}
-use Rattle.mode_network.specs.NetworkLists.{NetworkLists}
-use Rattle.mode_network.specs.Journeys.{Route}
-use Rattle.unpack.specs.Taken.{TakesHops}
-use Rattle.journey.specs.Boarded.{BoardsOnTime}
-use Rattle.journey.specs.Best.{Asked, Answers}
-use Rattle.few_boardings.specs.declared.boardings.FewRow.{FewRow}
-use Rattle.few_boardings.specs.declared.boardings.Found.{Found}
-use Rattle.few_boardings.specs.Boardings.{rides, IsFewRow, IsPrintableFewRow}
+use Rattle.timetable_arcs.specs.{TableLists}
+use Rattle.product_search.specs.{Walk}
+use Rattle.mode_network.specs.{NetworkLists.NetworkLists, Route}
+use Rattle.unpack.specs.{TakesHops}
+use Rattle.journey.specs.{BoardsOnTime, Asked, Answers}
+use Rattle.few_boardings.specs.{declared.boardings.FewRow.FewRow, Boardings.rides, Boardings.IsFewRow, Boardings.IsPrintableFewRow}
+pub use Rattle.few_boardings.specs.declared.boardings.Found.{Found}
 
 -- the journey takes the hops of the walk, and its rides are counted
 pub record IsCountedFor (n : NetworkLists) (table : TableLists) (arrival : ℕ) (walk : Walk) (found : Found) : Type 0 where

@@ -1,6 +1,6 @@
 //! The block of a query line that asks for the journeys that are worth their boardings.
 
-ghost use Rattle.std.specs.Prelude.{◌≡◌, [], ◌∷◌, ◌<◌, ◌^◌, All, IfOk, OnOk};
+ghost use Rattle.std.specs.Prelude.{[], ◌∷◌, ◌<◌, ◌^◌, All, IfOk, OnOk};
 ghost use Rattle.mode_expression.specs.Form.{form_of, IsUsable};
 ghost use Rattle.journey.specs.Blocks.{AddsText, IsFramed};
 ghost use Rattle.journey.specs.Queries.{IsQuery};

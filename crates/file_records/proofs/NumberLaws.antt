@@ -1,13 +1,11 @@
 -- A number that is read is the number that was written, and what was written is read again.
-use Rattle.std.proofs.Common.{◌≡◌, ℕ, ℤ, ◌+◌, ◌^◌, ◌<◌, ◌≤◌, Bool, true, false, cond, ltb, List, ◌++◌, length, get_or, take, drop, Some, None, refl, sym, ap, subst, ◌∙◌, append_assoc, length-append, arith, inl, inr}
-use Rattle.std.specs.Prelude.{option_map, FitsSigned}
-use Rattle.std.specs.Int.{Width, w32, w64, byte_len, cast_signed, cast_unsigned, from_be_bytes, to_be_bytes}
-use Rattle.std.specs.Str.{bytes_eq}
-use Rattle.std.proofs.lemmas.Bool.{cases_lt, ltb-false, le-ltb}
+use Rattle.std.proofs.Common.{◌≡◌, ℕ, ℤ, ◌+◌, ◌^◌, ◌<◌, ◌≤◌, Bool, true, false, cond, ltb, List, ◌++◌, length, get_or, take, drop, Some, None, refl, sym, ap, subst, ◌∙◌, append_assoc, length-append, arith, inl, inr, option_map, FitsSigned, w32, w64, bytes_eq, ltb-false, le-ltb, take_at, drop_at, take-append-drop, length-take, get_or-drop, get_or-take}
+use Rattle.std.specs.Int.{Width, byte_len, cast_signed, cast_unsigned, from_be_bytes, to_be_bytes}
+use Rattle.std.proofs.lemmas.Bool.{cases_lt}
 use Rattle.std.proofs.lemmas.Int.{of_z-to_z, to_z-of_z}
-use Rattle.std.proofs.lemmas.List.{take_at, drop_at, take-append-drop, length-take, get_or-drop, get_or-take, get_or_past}
+use Rattle.std.proofs.lemmas.List.{get_or_past}
 use Rattle.std.proofs.lemmas.Nat.{be_bytes_4, be_bytes_8, from_be_bytes-to_be_bytes_4, from_be_bytes-to_be_bytes_8}
-use Rattle.file_records.specs.Numbers.{number_front, signed_bytes, signed_front}
+use Rattle.file_records.specs.{number_front, signed_bytes, signed_front}
 use Rattle.file_records.proofs.Steps.{mapped, same_bytes}
 
 abbrev pub IsBytes : List ℕ → Type 0
@@ -85,12 +83,6 @@ number_again w limit wide n rest lt =
     let len = wide.len n in
     let long : ltb (length (to_be_bytes w n ++ rest)) (byte_len w) ≡ false = le-ltb _ _ (omega (arith, length-append (to_be_bytes w n) rest)) in
     rw (long, take_at (to_be_bytes w n) rest (byte_len w) len, drop_at (to_be_bytes w n) rest (byte_len w) len, wide.again n lt) refl
-
-pub word_takes : (bytes : List ℕ) (x : ℕ × List ℕ) → IsBytes bytes → number_front w32 bytes ≡ Some x → Takes bytes (to_be_bytes w32 x.0) x.1 × (x.0 < 2 ^ 32)
-word_takes bytes x fits e = number_takes w32 (2 ^ 32) wide32 bytes x fits e
-
-pub word_again : (n : ℕ) (rest : List ℕ) → n < 2 ^ 32 → number_front w32 (to_be_bytes w32 n ++ rest) ≡ Some (n, rest)
-word_again n rest lt = number_again w32 (2 ^ 32) wide32 n rest lt
 
 -- ---- signed numbers
 

@@ -1,6 +1,6 @@
 -- Records that are read one after the other.
 use Rattle.std.proofs.Common.{◌≡◌, ℕ, List, [], ◌∷◌, ◌++◌, Result, Ok, Err, refl, sym, ap, append_assoc}
-use Rattle.file_records.specs.Reading.{with_first}
+use Rattle.file_records.specs.{with_first}
 use Rattle.file_records.proofs.Steps.{ok_is}
 
 -- what was read before, and what is still read

@@ -1,8 +1,7 @@
 -- What is read of bytes is a value and the bytes behind it; or it is how many bytes are left at the first record that may not
 -- stand there.
 use Rattle.std.specs.Prelude.{◌≡◌, ℕ, List, ◌∷◌, length, Option, Some, None, Result, Ok, Err}
-use Rattle.file_records.specs.declared.halt.Halt.{Halt}
-use Rattle.file_records.specs.declared.halt.Halt.TheVariants.{Memory, Left}
+pub use Rattle.file_records.specs.{declared.halt.Halt.Halt, declared.halt.Halt.TheVariants.Memory, declared.halt.Halt.TheVariants.Left}
 
 infixl 10 ◌>>=◌
 abbrev pub ◌>>=◌ : {A B : Type 0} → Result A ℕ → (A → Result B ℕ) → Result B ℕ

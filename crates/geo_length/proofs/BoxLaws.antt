@@ -1,10 +1,7 @@
 -- Laws of boxes.
-use Rattle.std.proofs.Common.{◌≡◌, ◌≤ℤ◌, arith}
-use Rattle.std.proofs.lemmas.Int.{ints}
-use Rattle.plan_base.specs.declared.places.Place.{Place}
-use Rattle.geo_length.specs.Boxes.{IsInBounds, IsInside}
-use Rattle.geo_length.specs.declared.boxes.Bounds.{Bounds}
-use Rattle.geo_length.specs.Nearest.{Point}
+use Rattle.plan_base.proofs.Common.{◌≡◌, ◌≤ℤ◌, arith, ints}
+use Rattle.plan_base.specs.{Place}
+use Rattle.geo_length.specs.{IsInBounds, IsInside, Bounds, Point}
 
 -- what is inside depends on the corners alone
 pub same_corners : (a b : Bounds) (place : Place) → a.low ≡ b.low → a.high ≡ b.high → IsInside b place → IsInside a place

@@ -1,15 +1,8 @@
 -- Bounds on lengths.
-use Rattle.std.proofs.Common.{◌≡◌, ℕ, ℤ, ◌≤ℤ◌, ◌<ℤ◌, ◌⊎◌, ⊎_elim, ◌-◌, ◌*◌, ◌/◌, ◌<◌, ◌≤◌, arith, min, ◌^◌, ◌-ℤ◌, unsigned_abs}
-use Rattle.std.proofs.Math.Nat.{mul-le-mul}
-use Rattle.std.proofs.lemmas.Bool.Decides.{nat_tests}
-use Rattle.std.proofs.lemmas.Int.{ints}
-use Rattle.plan_base.specs.declared.places.Place.{Place}
-use Rattle.geo_length.specs.Widths.{width_at}
-use Rattle.geo_length.specs.Lengths.{short_way_around, eastward, length_between, square_between, mean_degree, northward}
-use Rattle.geo_length.specs.Roots.{root}
-use Rattle.geo_length.proofs.RootLaws.{root-ge, root_is}
-use Rattle.geo_length.proofs.WidthLaws.{width_at-le}
-use Rattle.std.proofs.lemmas.Bool.{cases_lt}
+use Rattle.plan_base.proofs.Common.{◌≡◌, ℕ, ℤ, ◌≤ℤ◌, ◌<ℤ◌, ◌⊎◌, ⊎_elim, ◌-◌, ◌*◌, ◌/◌, ◌<◌, ◌≤◌, arith, min, ◌^◌, ◌-ℤ◌, unsigned_abs, mul-le-mul, nat_tests, ints, cases_lt}
+use Rattle.plan_base.specs.{Place}
+use Rattle.geo_length.specs.{width_at, short_way_around, eastward, length_between, square_between, mean_degree, northward, root}
+use Rattle.geo_length.proofs.{RootLaws.root-ge, RootLaws.root_is, WidthLaws.width_at-le}
 
 -- the short way around is the less of both ways
 pub around_is : (d : ℕ) → d ≤ 3600000000 → short_way_around d ≡ min d (3600000000 - d)

@@ -1,16 +1,7 @@
 -- Laws of the nearest point.
-use Rattle.std.proofs.Common.{◌≡◌, ℕ, ℤ, ◌<◌, ◌≤◌, ◌≤ℤ◌, List, [], ◌∷◌, ◌++◌, Option, Some, None, Bool, true, false, ◌&&◌, ◌||◌, nat_lt, nat_eq, int_le, if◌then◌else◌, ◌⊎◌, inl, inr, ⊎_elim, refl, ap, ap₂, ◌∙◌, append_assoc, arith}
-use Rattle.std.specs.List.{All, filter}
-use Rattle.std.specs.List.Sorted.{IsPermutation}
-use Rattle.std.proofs.lemmas.Bool.{cases_lt, le-ltb, lt-ltb}
-use Rattle.std.proofs.lemmas.Bool.Decides.{nat_tests}
-use Rattle.std.proofs.lemmas.Int.{ints}
-use Rattle.std.proofs.lemmas.List.{append-nil}
-use Rattle.std.proofs.lemmas.List.Elements.{All-filter, All-nil, All-cons, All-append, All-push, All-weaker, All-contains, Contains-append_left, Contains-push}
-use Rattle.std.proofs.lemmas.List.Sorted.{All-permutation, Contains-permutation, IsPermutation-append_comm, IsPermutation-append_right}
-use Rattle.plan_base.specs.declared.places.Place.{Place}
-use Rattle.geo_length.specs.Lengths.{length_between}
-use Rattle.geo_length.specs.Nearest.{ComesLater, ExtendsNearest, IsClosest, IsNearest, Point, length_to, limit_of, nearer_of}
+use Rattle.plan_base.proofs.Common.{◌≡◌, ℕ, ℤ, ◌<◌, ◌≤◌, ◌≤ℤ◌, List, [], ◌∷◌, ◌++◌, Option, Some, None, Bool, true, false, ◌&&◌, ◌||◌, nat_lt, nat_eq, int_le, if◌then◌else◌, ◌⊎◌, inl, inr, ⊎_elim, refl, ap, ap₂, ◌∙◌, append_assoc, arith, All, filter, IsPermutation, cases_lt, le-ltb, lt-ltb, nat_tests, ints, append-nil, All-filter, All-nil, All-cons, All-append, All-push, All-weaker, All-contains, Contains-append_left, Contains-push, All-permutation, Contains-permutation, IsPermutation-append_comm, IsPermutation-append_right}
+use Rattle.plan_base.specs.{Place}
+use Rattle.geo_length.specs.{length_between, ComesLater, ExtendsNearest, IsClosest, IsNearest, Point, length_to, limit_of, nearer_of}
 
 -- the test whether the best so far comes no later than a point
 abbrev later_test : ℤ × ℕ → ℤ → ℕ → Bool

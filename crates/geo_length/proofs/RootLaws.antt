@@ -1,9 +1,7 @@
 -- The whole root is the only number that is a root.
-use Rattle.std.proofs.Common.{◌≡◌, ℕ, zero, suc, ◌+◌, ◌*◌, ◌<◌, ◌≤◌, arith, ⊎_elim}
-use Rattle.std.proofs.Math.Nat.{mul-le-mul}
-use Rattle.std.proofs.lemmas.Bool.{cases_lt}
+use Rattle.plan_base.proofs.Common.{◌≡◌, ℕ, zero, suc, ◌+◌, ◌*◌, ◌<◌, ◌≤◌, arith, ⊎_elim, mul-le-mul, cases_lt}
 use Rattle.std.proofs.lemmas.Bool.Decides.{leb_tells}
-use Rattle.geo_length.specs.Roots.{IsRoot, root, root_up_to}
+use Rattle.geo_length.specs.{IsRoot, root, root_up_to}
 
 -- a number above another has a square that is no less than the next one's
 squares : (r q : ℕ) → r < q → (r + 1) * (r + 1) ≤ q * q

@@ -1,11 +1,6 @@
 -- Laws of trees of boxes.
-use Rattle.std.proofs.Common.{◌≡◌, List, ◌++◌, sym, subst}
-use Rattle.std.proofs.lemmas.List.Elements.{All-append, All-weaker}
-use Rattle.geo_length.specs.Boxes.{AreInside, IsInBounds}
-use Rattle.geo_length.specs.declared.boxes.Bounds.{Bounds}
-use Rattle.geo_length.specs.declared.tree.Tree.{Tree, Leaf, Fork'}
-use Rattle.geo_length.specs.Nearest.{Point}
-use Rattle.geo_length.specs.Trees.{AreBounded, bounds_of}
+use Rattle.plan_base.proofs.Common.{◌≡◌, List, ◌++◌, sym, subst, All-append, All-weaker}
+use Rattle.geo_length.specs.{AreInside, IsInBounds, Bounds, Tree, Leaf, Fork', Point, AreBounded, bounds_of}
 
 -- the box of a tree is around its points
 pub all_inside : (tree : Tree) (points : List Point) → AreBounded tree points → AreInside (bounds_of tree) points

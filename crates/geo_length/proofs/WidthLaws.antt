@@ -1,7 +1,6 @@
 -- The width of a degree of longitude falls toward the poles.
-use Rattle.std.proofs.Common.{◌≡◌, ℕ, zero, suc, ◌≤◌, arith, List, [], ◌∷◌, get_or, Bool, true, ◌&&◌, nat_le, refl}
-use Rattle.std.proofs.lemmas.Bool.Decides.{nat_tests}
-use Rattle.geo_length.specs.Widths.{widths, width_at}
+use Rattle.plan_base.proofs.Common.{◌≡◌, ℕ, zero, suc, ◌≤◌, arith, List, [], ◌∷◌, get_or, Bool, true, ◌&&◌, nat_le, refl, nat_tests}
+use Rattle.geo_length.specs.{widths, width_at}
 
 -- each number is at most the one before it, the first one at most a bound
 abbrev falls : ℕ → List ℕ → Bool

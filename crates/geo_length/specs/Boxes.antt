@@ -1,7 +1,7 @@
 -- Boxes of places, from a south-western corner to a north-eastern one.
 use Rattle.std.specs.Prelude.{ℤ, ◌≤ℤ◌, List, All}
-use Rattle.plan_base.specs.declared.places.Place.{Place}
-use Rattle.geo_length.specs.declared.boxes.Bounds.{Bounds}
+use Rattle.plan_base.specs.{Place}
+pub use Rattle.geo_length.specs.declared.boxes.Bounds.{Bounds}
 
 pub record IsInside (bounds : Bounds) (place : Place) : Type 0 where
   pub south : bounds.low.lat ≤ℤ place.lat

@@ -1,9 +1,8 @@
 -- The length between two places, in millimetres, by whole numbers. Places are in units of 10^-7 degree, and
 -- a degree of latitude is 111,320 m long.
 use Rattle.std.specs.Prelude.{ℕ, ◌+◌, ◌-◌, ◌*◌, ◌/◌, ◌^◌, unsigned_abs, ◌+ℤ◌, ◌-ℤ◌, nat_lt, if◌then◌else◌}
-use Rattle.plan_base.specs.declared.places.Place.{Place}
-use Rattle.geo_length.specs.Roots.{root}
-use Rattle.geo_length.specs.Widths.{width_at}
+use Rattle.plan_base.specs.{Place}
+use Rattle.geo_length.specs.{Roots.root, Widths.width_at}
 
 -- a difference of longitudes, the short way around
 abbrev pub short_way_around : ℕ → ℕ

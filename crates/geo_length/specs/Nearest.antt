@@ -1,6 +1,6 @@
 -- The nearest of many points.
 use Rattle.std.specs.Prelude.{◌≡◌, ℕ, ℤ, nat_lt, nat_eq, int_le, ◌&&◌, ◌||◌, if◌then◌else◌, ◌≤◌, ◌<◌, ◌≤ℤ◌, ◌++◌, List, Option, Some, None, All, Contains}
-use Rattle.plan_base.specs.declared.places.Place.{Place}
+use Rattle.plan_base.specs.{Place}
 use Rattle.geo_length.specs.Lengths.{length_between}
 
 -- a point has an id and a place

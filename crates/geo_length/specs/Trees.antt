@@ -1,9 +1,8 @@
 -- Trees of boxes around points, which are halved again and again.
 use Rattle.std.specs.Prelude.{ℤ, ◌/◌, List, length, take, drop}
-use Rattle.plan_base.specs.declared.places.Place.{Place}
-use Rattle.geo_length.specs.declared.boxes.Bounds.{Bounds}
-use Rattle.geo_length.specs.declared.tree.Tree.{Tree, Leaf, Fork'}
-use Rattle.geo_length.specs.Boxes.{AreInside}
+use Rattle.plan_base.specs.{Place}
+use Rattle.geo_length.specs.{declared.boxes.Bounds.Bounds, Boxes.AreInside}
+pub use Rattle.geo_length.specs.declared.tree.Tree.{Tree, Leaf, Fork'}
 
 -- the box around all of the points
 abbrev pub bounds_of : Tree → Bounds

@@ -1,6 +1,6 @@
 //! The search for the nearest point of a tree.
 
-ghost use Rattle.std.specs.Prelude.{◌≡◌, ◌≤◌, ◌<◌, ◌∷◌, [], true, filter};
+ghost use Rattle.std.specs.Prelude.{◌≡◌, ◌<◌, ◌∷◌, [], true, filter};
 ghost use Rattle.geo_length.specs.Lengths.{length_between};
 ghost use Rattle.geo_length.specs.Boxes.{IsInBounds};
 ghost use Rattle.geo_length.specs.Nearest.{ComesLater, ExtendsNearest, Point, limit_of, nearer_of};

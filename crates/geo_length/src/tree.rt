@@ -1,6 +1,6 @@
 //! A tree of boxes around points.
 
-ghost use Rattle.std.specs.Prelude.{◌≡◌, ◌≤◌, IfOk};
+ghost use Rattle.std.specs.Prelude.{◌≡◌, IfOk};
 ghost use Rattle.geo_length.specs.Trees.{AreBounded, bounds_of};
 
 use crate::boxes::Bounds;

@@ -1,6 +1,6 @@
 //! The width of a degree of longitude.
 
-ghost use Rattle.std.specs.Prelude.{◌≡◌, ◌≤◌, slice_index};
+ghost use Rattle.std.specs.Prelude.{◌≡◌, ◌≤◌};
 ghost use Rattle.geo_length.specs.Widths.{width_at};
 
 static WIDTHS: [u64; 91] = [

@@ -1,9 +1,6 @@
 -- Time zones of earlier rows.
-use Rattle.std.proofs.Common.{◌≡◌, ℕ, List, [], ◌∷◌, ◌++◌, filter_map, refl, false, Some}
-use Rattle.std.specs.Prelude.{unwrap_or}
-use Rattle.std.specs.List.{list_any}
-use Rattle.gtfs_tables.specs.Agencies.{agencies, first_zone, is_first}
-use Rattle.gtfs_tables.specs.Tables.{has_first_zone}
+use Rattle.plan_base.proofs.Common.{◌≡◌, ℕ, List, [], ◌∷◌, ◌++◌, filter_map, refl, false, Some, unwrap_or, list_any}
+use Rattle.gtfs_tables.specs.{agencies, first_zone, is_first, has_first_zone}
 
 -- no row has the key of an earlier one, and none gives a record
 pub without_key : (zones : List (List ℕ)) (zone : List ℕ) → list_any (agencies.has_key_of zone) zones ≡ false

@@ -1,14 +1,6 @@
 -- A trip's id is one with the place of the trip.
-use Rattle.std.proofs.Common.{◌≡◌, ℕ, List, [], ◌∷◌, ◌++◌, map, get_or, refl, sym, ap, ap₂, ◌∙◌, Bool, true, false, nat_eq, ◌&&◌, ◌||◌, Option, None, Some, arith, inl, inr}
-use Rattle.std.specs.Prelude.{bytes_eq, is_some, unwrap_or}
-use Rattle.std.specs.List.{list_any, AllByRecursion}
-use Rattle.std.proofs.lemmas.Bool.{cases_Bool}
-use Rattle.std.proofs.lemmas.Bool.Decides.{nat_tests}
-use Rattle.std.proofs.lemmas.Option.{same_Some}
-use Rattle.std.proofs.lemmas.List.Quantifiers.{position-Some}
-use Rattle.std.proofs.lemmas.Slice.Eq.{bytes_eq-Decides}
-use Rattle.gtfs_tables.specs.Calls.{StopTime, HasTrip, call_key_of, is_same_key}
-use Rattle.gtfs_tables.specs.Trips.{place_among}
+use Rattle.plan_base.proofs.Common.{◌≡◌, ℕ, List, [], ◌∷◌, ◌++◌, map, get_or, refl, sym, ap, ap₂, ◌∙◌, Bool, true, false, nat_eq, ◌&&◌, ◌||◌, Option, None, Some, arith, inl, inr, bytes_eq, is_some, unwrap_or, list_any, AllByRecursion, cases_Bool, nat_tests, same_Some, position-Some, bytes_eq-Decides}
+use Rattle.gtfs_tables.specs.{StopTime, HasTrip, call_key_of, is_same_key, place_among}
 
 -- the id at a place
 pub id_at_place : (ids : List (List ℕ)) (a : List ℕ) (j : ℕ) → place_among ids a ≡ Some j → a ≡ get_or ids j []

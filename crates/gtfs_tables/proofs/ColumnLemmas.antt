@@ -1,9 +1,5 @@
 -- The first place of a name.
-use Rattle.std.proofs.Common.{◌≡◌, ℕ, ◌<◌, ◌≤◌, List, length, get_or, None, Some, Bool, true, false, arith}
-use Rattle.std.specs.Prelude.{position}
-use Rattle.std.specs.List.{position_or_len}
-use Rattle.std.proofs.lemmas.Grind.{common_steps}
-use Rattle.std.proofs.lemmas.List.Sums.{position_or_len_is}
+use Rattle.plan_base.proofs.Common.{◌≡◌, ℕ, ◌<◌, ◌≤◌, List, length, get_or, None, Some, Bool, true, false, arith, position, position_or_len, common_steps, position_or_len_is}
 
 module _ {X : Type 0} (p : X → Bool) (xs : List X) (i : ℕ) (d : X) where
   pub first_place : i < length xs → ((k : ℕ) → k < i → p (get_or xs k d) ≡ false) → p (get_or xs i d) ≡ true → position p xs ≡ Some i

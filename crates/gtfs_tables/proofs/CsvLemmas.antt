@@ -1,8 +1,6 @@
 -- A row takes at least a byte, so a text has fewer rows than it has bytes, and the rows of a text are those that
 -- reading one after another gives.
-use Rattle.std.proofs.Common.{◌≡◌, ℕ, zero, suc, ◌+◌, ◌<◌, ◌≤◌, List, [], ◌∷◌, ◌++◌, length, refl, sym, ap, ap₂, inl, subst, ◌∙◌, add-one, Bool, true, false, cond, Option, None, Some, Result, Ok, Err, arith}
-use Rattle.std.specs.Prelude.{◌==◌}
-use Rattle.std.proofs.lemmas.Option.{none-some, same_Some}
+use Rattle.plan_base.proofs.Common.{◌≡◌, ℕ, zero, suc, ◌+◌, ◌<◌, ◌≤◌, List, [], ◌∷◌, ◌++◌, length, refl, sym, ap, ap₂, inl, subst, ◌∙◌, add-one, Bool, true, false, cond, Option, None, Some, Result, Ok, Err, arith, ◌==◌, none-some, same_Some}
 use Rattle.csv.specs.Machine.{Read, next_record, step, in_field, start_field, start_record, ends_with, ends_at_end, is_end, fields_after, field_after}
 use Rattle.csv.specs.Reading.{ExplainsRead, FlexibleStep, Reached, RowStep, default_config, records_from, records_next}
 use Rattle.csv.specs.Records as Csv
@@ -18,8 +16,7 @@ use Rattle.csv.specs.declared.parser.State.TheVariants as st
 use Rattle.csv.specs.declared.parser.Action.{Action}
 use Rattle.csv.specs.declared.parser.Action.TheVariants as act
 use Rattle.csv.specs.declared.parser.Terminator.TheVariants as term
-use Rattle.gtfs_tables.specs.Columns.{Row}
-use Rattle.gtfs_tables.specs.inside.RowsLeft.{HasStepped, IsWant, Source, TakesRows, rows_from}
+use Rattle.gtfs_tables.specs.{Row, inside.HasStepped, inside.IsWant, inside.Source, inside.TakesRows, inside.rows_from}
 
 -- where a byte ends a row, the next state stands between two rows
 abbrev StandsBetween : State × Action → Type 0

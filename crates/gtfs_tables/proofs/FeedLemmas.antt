@@ -1,27 +1,13 @@
 -- How the tables of a feed follow one another.
-use Rattle.std.proofs.Common.{◌≡◌, ℕ, List, map, sym, ap, ◌∙◌, None, Some, Result, Ok, Err}
-use Rattle.plan_base.specs.declared.limits.Caps.{Caps}
-use Rattle.gtfs_tables.specs.declared.calls.CallRow.{CallRow}
-use Rattle.gtfs_tables.specs.declared.dates.DateRow.{DateRow}
-use Rattle.gtfs_tables.specs.declared.faults.FeedFault.{FeedFault}
-use Rattle.gtfs_tables.specs.declared.frequencies.FrequencyRow.{FrequencyRow}
-use Rattle.gtfs_tables.specs.declared.files.FeedFiles.{FeedFiles}
-use Rattle.gtfs_tables.specs.declared.routes.RouteRow.{RouteRow}
-use Rattle.gtfs_tables.specs.declared.services.ServiceRow.{ServiceRow}
-use Rattle.gtfs_tables.specs.declared.stops.StopRow.{StopRow}
-use Rattle.gtfs_tables.specs.declared.trips.TripRow.{TripRow}
-use Rattle.gtfs_tables.specs.Answers.{◌>>=◌, IsFaultOf, faultless}
-use Rattle.gtfs_tables.specs.Agencies.{agencies}
+use Rattle.plan_base.proofs.Common.{◌≡◌, ℕ, List, map, sym, ap, ◌∙◌, None, Some, Result, Ok, Err}
+use Rattle.plan_base.specs.{Caps}
+use Rattle.gtfs_tables.specs.{CallRow, DateRow, FeedFault, FrequencyRow, FeedFiles, RouteRow, ServiceRow, StopRow, TripRow, ◌>>=◌, IsFaultOf, faultless, agencies, bytes_of, feed_of, missing_file, tables_of, records_of, FeedLists.FeedLists, inside.AreRead}
 use Rattle.gtfs_tables.specs.Calls as Calls
-use Rattle.gtfs_tables.specs.FeedLists.{FeedLists, bytes_of}
-use Rattle.gtfs_tables.specs.Feeds.{feed_of, missing_file, tables_of}
 use Rattle.gtfs_tables.specs.Frequencies as Frequencies
-use Rattle.gtfs_tables.specs.inside.Holding.{AreRead}
 use Rattle.gtfs_tables.specs.Routes as Routes
 use Rattle.gtfs_tables.specs.ServiceDates as Dates
 use Rattle.gtfs_tables.specs.Services as Services
 use Rattle.gtfs_tables.specs.Stops as Stops
-use Rattle.gtfs_tables.specs.Tables.{records_of}
 use Rattle.gtfs_tables.specs.Trips as Trips
 use Rattle.gtfs_tables.proofs.TableLemmas.{want_map}
 

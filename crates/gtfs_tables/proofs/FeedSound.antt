@@ -1,42 +1,12 @@
 -- A feed that was read keeps the rules of feeds.
-use Rattle.std.proofs.Common.{◌≡◌, ℕ, ◌+◌, ◌-◌, ◌*◌, ◌<◌, ◌≤◌, take, drop, List, [], ◌∷◌, map, length, refl, sym, ap, ap₂, subst, Bool, true, false, cond, nat_eq, nat_le, ◌&&◌, ◌||◌, Option, None, Some, Ok, arith}
-use Rattle.std.specs.Prelude.{bytes_eq, nat_lt, option_and_then, option_map, IfSome}
-use Rattle.std.specs.Cmp.{IsEquivalence}
-use Rattle.std.specs.List.{AllByRecursion, IsDistinct}
-use Rattle.std.proofs.lemmas.Bool.Decides.{nat_tests}
-use Rattle.std.proofs.lemmas.Cmp.{and_equiv, nat_eq_equiv, nat_list_eq_equiv, on_equiv}
-use Rattle.std.proofs.lemmas.List.Quantifiers.{position-Some}
-use Rattle.std.proofs.lemmas.Option.{cond_some, none-some, same_Some}
-use Rattle.std.proofs.lemmas.Result.{IfOk-at_ok}
-use Rattle.plain_texts.specs.FixedDecimal.{fixed_at}
-use Rattle.plan_base.specs.declared.limits.Caps.{Caps}
-use Rattle.service_days.specs.Dates.{date_at}
-use Rattle.gtfs_tables.specs.declared.calls.CallRow.{CallRow}
-use Rattle.gtfs_tables.specs.declared.calls.Times.{Times}
-use Rattle.gtfs_tables.specs.declared.calls.Visit.{Visit}
-use Rattle.gtfs_tables.specs.declared.columns.Column.{Column}
+use Rattle.plan_base.proofs.Common.{◌≡◌, ℕ, ◌+◌, ◌-◌, ◌*◌, ◌<◌, ◌≤◌, take, drop, List, [], ◌∷◌, map, length, refl, sym, ap, ap₂, subst, Bool, true, false, cond, nat_eq, nat_le, ◌&&◌, ◌||◌, Option, None, Some, Ok, arith, bytes_eq, nat_lt, option_and_then, option_map, IfSome, IsEquivalence, AllByRecursion, IsDistinct, nat_tests, nat_list_eq_equiv, position-Some, cond_some, none-some, same_Some, IfOk-at_ok}
+use Rattle.std.proofs.lemmas.Cmp.{and_equiv, nat_eq_equiv, on_equiv}
+use Rattle.plain_texts.specs.{fixed_at}
+use Rattle.plan_base.specs.{Caps}
+use Rattle.service_days.specs.{date_at}
+use Rattle.gtfs_tables.specs.{CallRow, Times, Visit, Column, DateRow, FrequencyRow, Span, RouteRow, ServiceRow, StopRow, TripRow, StopTime, call_between, call_if_timed, call_row_of, calls, times_in, times_of, visit_in, added_at, feed_id_at, headway_at, hours_and_part, is_id, is_usual_at, letter_of_type, minutes_and_seconds_at, optional_time_at, positive, service_time_at, trimmed, up_to_nine_digits_at, Frequency, frequencies, frequency_of, frequency_over, span_in, routes, dates, rule_in, services, IsCall, IsFeedId, IsFrequency, IsRoute, IsTrip, is_same_call, Location, place_if_stop, stops, TableRow, field_in, id_in, value_in, TripLine, place_among, trip_of, trip_over, trips, inside.AreRead}
 use Rattle.gtfs_tables.specs.declared.columns.Column.TheVariants as column
-use Rattle.gtfs_tables.specs.declared.dates.DateRow.{DateRow}
-use Rattle.gtfs_tables.specs.declared.frequencies.FrequencyRow.{FrequencyRow}
-use Rattle.gtfs_tables.specs.declared.frequencies.Span.{Span}
-use Rattle.gtfs_tables.specs.declared.routes.RouteRow.{RouteRow}
-use Rattle.gtfs_tables.specs.declared.services.ServiceRow.{ServiceRow}
-use Rattle.gtfs_tables.specs.declared.stops.StopRow.{StopRow}
-use Rattle.gtfs_tables.specs.declared.trips.TripRow.{TripRow}
-use Rattle.gtfs_tables.specs.Calls.{StopTime, call_between, call_if_timed, call_row_of, calls, times_in, times_of, visit_in}
-use Rattle.gtfs_tables.specs.Forms.{added_at, feed_id_at, headway_at, hours_and_part, is_id, is_usual_at, letter_of_type, minutes_and_seconds_at, optional_time_at, positive, service_time_at, trimmed, up_to_nine_digits_at}
-use Rattle.gtfs_tables.specs.Frequencies.{Frequency, frequencies, frequency_of, frequency_over, span_in}
-use Rattle.gtfs_tables.specs.inside.Holding.{AreRead}
-use Rattle.gtfs_tables.specs.Routes.{routes}
-use Rattle.gtfs_tables.specs.ServiceDates.{dates}
-use Rattle.gtfs_tables.specs.Services.{rule_in, services}
-use Rattle.gtfs_tables.specs.Sound.{IsCall, IsFeedId, IsFrequency, IsRoute, IsTrip, is_same_call}
-use Rattle.gtfs_tables.specs.Stops.{Location, place_if_stop, stops}
-use Rattle.gtfs_tables.specs.TableRows.{TableRow, field_in, id_in, value_in}
-use Rattle.gtfs_tables.specs.Trips.{TripLine, place_among, trip_of, trip_over, trips}
-use Rattle.gtfs_tables.proofs.CallLemmas.{same_place}
-use Rattle.gtfs_tables.proofs.SoundLemmas.{behind, distinct_keys, each_keeps, has_value, no_two}
-use Rattle.gtfs_tables.proofs.StopLemmas.{has_id_of}
+use Rattle.gtfs_tables.proofs.{CallLemmas.same_place, SoundLemmas.behind, SoundLemmas.distinct_keys, SoundLemmas.each_keeps, SoundLemmas.has_value, SoundLemmas.no_two, StopLemmas.has_id_of}
 
 id_is : (row : TableRow) (column : Column) (id : List ℕ) → id_in row column ≡ Ok id → IsFeedId id
 id_is row column id e = by_test (field_in row column) (is_id (field_in row column)) refl (has_value (feed_id_at (field_in row column)) _ id e)

@@ -1,8 +1,5 @@
 -- Lists of values and of what they hold.
-use Rattle.std.proofs.Common.{◌≡◌, ℕ, List, [], ◌∷◌, map, filter_map, refl, ap, ap₂, Bool, not, cond, ◌||◌, ◌+◌, Some, None, nat_lt, true, false}
-use Rattle.std.proofs.lemmas.List.{length-map}
-use Rattle.std.specs.Prelude.{position}
-use Rattle.std.specs.List.{list_any, position_or_len}
+use Rattle.plan_base.proofs.Common.{◌≡◌, ℕ, List, [], ◌∷◌, map, filter_map, refl, ap, ap₂, Bool, not, cond, ◌||◌, ◌+◌, Some, None, nat_lt, true, false, length-map, position, list_any, position_or_len}
 
 module _ {X Y : Type 0} (f : X → Y) (p : Y → Bool) where
   pub list_any-map : (xs : List X) → list_any p (map f xs) ≡ list_any (λ x. p (f x)) xs

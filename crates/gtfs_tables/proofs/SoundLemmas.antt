@@ -1,16 +1,7 @@
 -- What the rows of a table keep where none has a fault.
-use Rattle.std.proofs.Common.{◌≡◌, ℕ, List, [], ◌∷◌, ◌++◌, map, length, filter_map, refl, ap, subst, ◌∙◌, Bool, true, false, cond, Option, None, Some, Result, Ok, Err}
-use Rattle.std.specs.Prelude.{IfOk, option_map}
-use Rattle.std.specs.Cmp.{IsEquivalence}
-use Rattle.std.specs.List.{list_any, cons_option, AllByRecursion, IsDistinct}
-use Rattle.std.specs.Option.{ok_or, option_or}
-use Rattle.std.proofs.lemmas.Result.{IfOk-at_ok}
-use Rattle.std.proofs.lemmas.Map.Keys.{IsDistinct-push}
-use Rattle.gtfs_tables.specs.Answers.{◌>>=◌, faultless}
-use Rattle.gtfs_tables.specs.Columns.{Row}
-use Rattle.gtfs_tables.specs.TableRows.{TableRow}
-use Rattle.gtfs_tables.specs.inside.Holding.{AreRead}
-use Rattle.gtfs_tables.specs.Tables.{Table, first_dangling, row_fault, judged, row_of, rows_behind, header_in, rows_below, missing_column, rows_of_file}
+use Rattle.plan_base.proofs.Common.{◌≡◌, ℕ, List, [], ◌∷◌, ◌++◌, map, length, filter_map, refl, ap, subst, ◌∙◌, Bool, true, false, cond, Option, None, Some, Result, Ok, Err, IfOk, option_map, IsEquivalence, list_any, cons_option, AllByRecursion, ok_or, option_or, IfOk-at_ok, IsDistinct-push}
+use Rattle.std.specs.List.{IsDistinct}
+use Rattle.gtfs_tables.specs.{◌>>=◌, faultless, Row, TableRow, Table, first_dangling, row_fault, judged, row_of, rows_behind, header_in, rows_below, missing_column, rows_of_file, inside.AreRead}
 use Rattle.gtfs_tables.proofs.CallLemmas.{one_more_known}
 
 -- a step that has a value

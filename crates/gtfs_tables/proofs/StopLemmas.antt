@@ -1,10 +1,7 @@
 -- Stops have the ids of their rows.
-use Rattle.std.proofs.Common.{◌≡◌, map, refl, sym, ap, Option, None, Some}
-use Rattle.std.specs.Prelude.{option_map, option_to_list}
-use Rattle.std.proofs.lemmas.Option.{none-some, same_Some}
-use Rattle.plan_base.specs.declared.places.Place.{Place}
-use Rattle.gtfs_tables.specs.declared.stops.StopRow.{StopRow}
-use Rattle.gtfs_tables.specs.Stops.{Location, stop_of}
+use Rattle.plan_base.proofs.Common.{◌≡◌, map, refl, sym, ap, Option, None, Some, option_map, option_to_list, none-some, same_Some}
+use Rattle.plan_base.specs.{Place}
+use Rattle.gtfs_tables.specs.{StopRow, Location, stop_of}
 
 pub has_id_of : (location : Location) (stop : StopRow) → stop_of location ≡ Some stop → stop.id ≡ location.id
 has_id_of location stop e = by_place location.place e

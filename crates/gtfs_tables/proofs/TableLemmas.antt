@@ -1,22 +1,8 @@
 -- How rows join the earlier ones.
-use Rattle.std.proofs.Common.{◌≡◌, ℕ, ◌+◌, ◌<◌, ◌≤◌, List, [], ◌∷◌, ◌++◌, map, length, filter_map, refl, sym, ap, ap₂, subst, ◌∙◌, length-append, Bool, true, false, cond, ◌||◌, nat_lt, Option, None, Some, Result, Ok, Err, arith}
-use Rattle.std.specs.Option.{option_or}
-use Rattle.std.specs.Prelude.{option_map, option_to_list, IfErr, MatchResult, OnOk}
-use Rattle.std.specs.List.{list_any, cons_option}
-use Rattle.std.proofs.lemmas.Bool.{cond-true, cond-false}
-use Rattle.std.proofs.lemmas.Bool.Decides.{nat_tests}
-use Rattle.std.proofs.lemmas.List.{map-append}
-use Rattle.std.proofs.lemmas.List.Elements.{filter_map-append}
-use Rattle.plan_base.specs.declared.limits.Kind.{Kind}
-use Rattle.gtfs_tables.specs.declared.columns.Column.{Column}
-use Rattle.gtfs_tables.specs.declared.files.FeedFile.{FeedFile}
-use Rattle.gtfs_tables.specs.declared.faults.FeedFault.{FeedFault}
-use Rattle.gtfs_tables.specs.declared.faults.FeedFault.TheVariants.{MissingFile, MissingColumn, BadField, RepeatedKey, DanglingKey, MixedZones, TooMany, OutOfMemory}
-use Rattle.gtfs_tables.specs.Answers.{◌>>=◌, faultless, IsFaultOf, IsWantOr}
-use Rattle.gtfs_tables.specs.Columns.{Row}
-use Rattle.gtfs_tables.specs.TableRows.{TableRow}
-use Rattle.gtfs_tables.specs.Tables.{IsWithinLimit, Table, limit_fault, first_dangling, has_first_zone, row_fault, judged, rows_behind}
-use Rattle.gtfs_tables.specs.inside.Holding.{Holds, IsTaken, IsOnTheWay}
+use Rattle.plan_base.proofs.Common.{◌≡◌, ℕ, ◌+◌, ◌<◌, ◌≤◌, List, [], ◌∷◌, ◌++◌, map, length, filter_map, refl, sym, ap, ap₂, subst, ◌∙◌, length-append, Bool, true, false, cond, ◌||◌, nat_lt, Option, None, Some, Result, Ok, Err, arith, option_or, option_map, option_to_list, IfErr, MatchResult, OnOk, list_any, cons_option, cond-true, nat_tests, map-append, filter_map-append}
+use Rattle.std.proofs.lemmas.Bool.{cond-false}
+use Rattle.plan_base.specs.{Kind}
+use Rattle.gtfs_tables.specs.{Column, FeedFile, FeedFault, MissingFile, MissingColumn, BadField, RepeatedKey, DanglingKey, MixedZones, TooMany, OutOfMemory, ◌>>=◌, faultless, IsFaultOf, IsWantOr, Row, TableRow, IsWithinLimit, Table, limit_fault, first_dangling, has_first_zone, row_fault, judged, rows_behind, inside.Holds, inside.IsTaken, inside.IsOnTheWay}
 use Rattle.gtfs_tables.proofs.ListLemmas.{list_any-map}
 
 past_limit : (limit : Option (Kind × ℕ)) (kind : Kind) (most count : ℕ) → limit ≡ Some (kind, most) → most < count → limit_fault limit count ≡ Some (TooMany kind)

@@ -1,9 +1,8 @@
 -- agency.txt: all rows have one time zone.
 use Rattle.std.specs.Prelude.{ℕ, Bool, true, Some, List, [], ◌∷◌, bytes_eq, false, Option, None}
-use Rattle.gtfs_tables.specs.declared.columns.Column.TheVariants.{AgencyTimezone}
+pub use Rattle.gtfs_tables.specs.declared.columns.Column.TheVariants.{AgencyTimezone}
 use Rattle.gtfs_tables.specs.declared.files.FeedFile.TheVariants as file
-use Rattle.gtfs_tables.specs.TableRows.{id_in}
-use Rattle.gtfs_tables.specs.Tables.{Table}
+use Rattle.gtfs_tables.specs.{TableRows.id_in, Tables.Table}
 
 -- a row says its time zone, and gives no record
 abbrev pub agencies : Table (List ℕ) (List ℕ)

@@ -1,7 +1,6 @@
 -- Values or faults, and the first of several faults.
 use Rattle.std.specs.Prelude.{◌≡◌, Option, None, Some, Result, Ok, Err}
-use Rattle.gtfs_tables.specs.declared.faults.FeedFault.{FeedFault}
-use Rattle.gtfs_tables.specs.declared.faults.FeedFault.TheVariants.{MissingFile, MissingColumn, BadField, RepeatedKey, DanglingKey, MixedZones, TooMany, OutOfMemory}
+pub use Rattle.gtfs_tables.specs.{declared.faults.FeedFault.FeedFault, declared.faults.FeedFault.TheVariants.MissingFile, declared.faults.FeedFault.TheVariants.MissingColumn, declared.faults.FeedFault.TheVariants.BadField, declared.faults.FeedFault.TheVariants.RepeatedKey, declared.faults.FeedFault.TheVariants.DanglingKey, declared.faults.FeedFault.TheVariants.MixedZones, declared.faults.FeedFault.TheVariants.TooMany, declared.faults.FeedFault.TheVariants.OutOfMemory}
 
 -- the next step takes the value, where there is no fault
 infixl 10 ◌>>=◌

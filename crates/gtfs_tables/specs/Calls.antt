@@ -1,21 +1,11 @@
 -- stop_times.txt
 use Rattle.std.specs.Prelude.{◌≡◌, unwrap_or, ℕ, List, [], ◌∷◌, Bool, true, bytes_eq, nat_eq, ◌&&◌, is_some, Option, None, Some, option_and_then, option_map, Result, Ok}
 use Rattle.std.specs.List.{AllByRecursion}
-use Rattle.plan_base.specs.declared.limits.Caps.{Caps}
+use Rattle.plan_base.specs.{Caps}
 use Rattle.plan_base.specs.declared.limits.Kind.TheVariants as kind
-use Rattle.gtfs_tables.specs.declared.columns.Column.{Column}
-use Rattle.gtfs_tables.specs.declared.columns.Column.TheVariants.{TripId, StopId, StopSequence, ArrivalTime, DepartureTime, PickupType, DropOffType}
-use Rattle.gtfs_tables.specs.declared.faults.FeedFault.{FeedFault}
+use Rattle.gtfs_tables.specs.{declared.columns.Column.Column, declared.columns.Column.TheVariants.TripId, declared.columns.Column.TheVariants.StopId, declared.faults.FeedFault.FeedFault, declared.calls.CallRow.CallRow, Forms.up_to_nine_digits_at, Forms.optional_time_at, Forms.is_usual_at, inside.Holding.Holds, TableRows.TableRow, TableRows.id_in, TableRows.value_in, Tables.Table, Answers.◌>>=◌, Trips.place_among}
+pub use Rattle.gtfs_tables.specs.{declared.columns.Column.TheVariants.StopSequence, declared.columns.Column.TheVariants.ArrivalTime, declared.columns.Column.TheVariants.DepartureTime, declared.columns.Column.TheVariants.PickupType, declared.columns.Column.TheVariants.DropOffType, declared.calls.Visit.Visit, declared.calls.Times.Times}
 use Rattle.gtfs_tables.specs.declared.files.FeedFile.TheVariants as file
-use Rattle.gtfs_tables.specs.declared.calls.CallRow.{CallRow}
-use Rattle.gtfs_tables.specs.declared.calls.Visit.{Visit}
-use Rattle.gtfs_tables.specs.declared.calls.Times.{Times}
-use Rattle.gtfs_tables.specs.Answers.{◌>>=◌}
-use Rattle.gtfs_tables.specs.Forms.{up_to_nine_digits_at, optional_time_at, is_usual_at}
-use Rattle.gtfs_tables.specs.inside.Holding.{Holds}
-use Rattle.gtfs_tables.specs.TableRows.{TableRow, id_in, value_in}
-use Rattle.gtfs_tables.specs.Tables.{Table}
-use Rattle.gtfs_tables.specs.Trips.{place_among}
 
 -- what a row says
 pub record StopTime : Type 0 where

@@ -1,6 +1,6 @@
 -- The columns of tables: their names, and where a header names them.
 use Rattle.std.specs.Prelude.{ℕ, List, [], ◌∷◌, position, codes, bytes_eq, is_some, Option, None, Some, if◌then◌else◌}
-use Rattle.gtfs_tables.specs.declared.columns.Column.{Column}
+pub use Rattle.gtfs_tables.specs.declared.columns.Column.{Column}
 use Rattle.gtfs_tables.specs.declared.columns.Column.TheVariants as column
 
 -- the fields of a row

@@ -1,13 +1,7 @@
 -- What a feed gives, as lists, and its files.
 use Rattle.std.specs.Prelude.{ℕ, List, Option, option_map}
 use Rattle.std.specs.Borrow.{Bor}
-use Rattle.gtfs_tables.specs.declared.stops.StopRow.{StopRow}
-use Rattle.gtfs_tables.specs.declared.routes.RouteRow.{RouteRow}
-use Rattle.gtfs_tables.specs.declared.services.ServiceRow.{ServiceRow}
-use Rattle.gtfs_tables.specs.declared.dates.DateRow.{DateRow}
-use Rattle.gtfs_tables.specs.declared.trips.TripRow.{TripRow}
-use Rattle.gtfs_tables.specs.declared.frequencies.FrequencyRow.{FrequencyRow}
-use Rattle.gtfs_tables.specs.declared.calls.CallRow.{CallRow}
+pub use Rattle.gtfs_tables.specs.{declared.stops.StopRow.StopRow, declared.routes.RouteRow.RouteRow, declared.services.ServiceRow.ServiceRow, declared.dates.DateRow.DateRow, declared.trips.TripRow.TripRow, declared.frequencies.FrequencyRow.FrequencyRow, declared.calls.CallRow.CallRow}
 
 pub record FeedLists : Type 0 where
   pub stops : List StopRow

@@ -1,22 +1,9 @@
 -- What the files of a feed give, or their first fault.
 use Rattle.std.specs.Prelude.{List, [], ◌∷◌, map, Bool, ◌||◌, is_some, Option, None, Some, option_map, Result, Ok, if◌then◌else◌}
-use Rattle.plan_base.specs.declared.limits.Caps.{Caps}
-use Rattle.gtfs_tables.specs.declared.files.FeedFile.{FeedFile}
+use Rattle.plan_base.specs.{Caps}
+use Rattle.gtfs_tables.specs.{declared.files.FeedFile.FeedFile, declared.faults.FeedFault.FeedFault, declared.faults.FeedFault.TheVariants.MissingFile, FeedLists.FeedLists, FeedLists.bytes_of, Answers.◌>>=◌, Answers.faultless, Tables.records_of, Agencies.agencies, Stops.stops, Routes.routes, Services.services, ServiceDates.dates, Trips.trips, Frequencies.frequencies, Calls.calls}
 use Rattle.gtfs_tables.specs.declared.files.FeedFile.TheVariants as file
-use Rattle.gtfs_tables.specs.declared.files.FeedFiles.{FeedFiles}
-use Rattle.gtfs_tables.specs.declared.faults.FeedFault.{FeedFault}
-use Rattle.gtfs_tables.specs.declared.faults.FeedFault.TheVariants.{MissingFile}
-use Rattle.gtfs_tables.specs.FeedLists.{FeedLists, bytes_of}
-use Rattle.gtfs_tables.specs.Answers.{◌>>=◌, faultless}
-use Rattle.gtfs_tables.specs.Tables.{records_of}
-use Rattle.gtfs_tables.specs.Agencies.{agencies}
-use Rattle.gtfs_tables.specs.Stops.{stops}
-use Rattle.gtfs_tables.specs.Routes.{routes}
-use Rattle.gtfs_tables.specs.Services.{services}
-use Rattle.gtfs_tables.specs.ServiceDates.{dates}
-use Rattle.gtfs_tables.specs.Trips.{trips}
-use Rattle.gtfs_tables.specs.Frequencies.{frequencies}
-use Rattle.gtfs_tables.specs.Calls.{calls}
+pub use Rattle.gtfs_tables.specs.declared.files.FeedFiles.{FeedFiles}
 
 -- the files that must be there, and whether they are: one of the two calendar files suffices
 abbrev pub required : FeedFiles → List (FeedFile × Bool)

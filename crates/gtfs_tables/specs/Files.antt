@@ -1,6 +1,6 @@
 -- The names of a feed's files.
 use Rattle.std.specs.Prelude.{ℕ, List, codes}
-use Rattle.gtfs_tables.specs.declared.files.FeedFile.{FeedFile}
+pub use Rattle.gtfs_tables.specs.declared.files.FeedFile.{FeedFile}
 use Rattle.gtfs_tables.specs.declared.files.FeedFile.TheVariants as file
 
 -- the name of a file in the feed's folder

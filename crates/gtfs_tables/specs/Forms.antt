@@ -1,10 +1,8 @@
 -- The forms of fields.
-use Rattle.std.specs.Prelude.{ℕ, ◌+◌, ◌-◌, ◌*◌, ◌^◌, List, [], ◌∷◌, length, take, drop, reverse, codes, bytes_eq, Bool, true, false, ◌==◌, ◌&&◌, ◌||◌, nat_eq, nat_le, nat_lt, Option, None, Some, option_and_then, option_map, if◌then◌else◌}
-use Rattle.std.specs.List.{take_while}
+use Rattle.std.specs.Prelude.{ℕ, ◌+◌, ◌-◌, ◌*◌, ◌^◌, List, [], ◌∷◌, length, take, drop, reverse, codes, bytes_eq, Bool, true, false, ◌==◌, ◌&&◌, ◌||◌, nat_eq, nat_le, nat_lt, Option, None, Some, option_and_then, option_map, if◌then◌else◌, take_while}
 use Rattle.std.specs.Str.{is_utf8}
-use Rattle.plain_texts.specs.Lines.{is_space}
-use Rattle.service_days.specs.ReadClock.{below_sixty}
-use Rattle.plain_texts.specs.FixedDecimal.{fixed_at}
+use Rattle.plain_texts.specs.{is_space, fixed_at}
+use Rattle.service_days.specs.{below_sixty}
 
 -- an id, or the name of a time zone: at least one byte and fewer than 2 ^ 30, in UTF-8
 unfoldable pub is_id : List ℕ → Bool

@@ -1,15 +1,8 @@
 -- frequencies.txt: a trip leaves anew at a steady headway.
 use Rattle.std.specs.Prelude.{ℕ, List, [], ◌∷◌, false, true, not, is_some, Option, None, option_map, Result, Ok}
-use Rattle.gtfs_tables.specs.declared.columns.Column.TheVariants.{TripId, StartTime, EndTime, HeadwaySecs, ExactTimes}
-use Rattle.gtfs_tables.specs.declared.faults.FeedFault.{FeedFault}
+pub use Rattle.gtfs_tables.specs.{declared.columns.Column.TheVariants.StartTime, declared.columns.Column.TheVariants.EndTime, declared.columns.Column.TheVariants.HeadwaySecs, declared.columns.Column.TheVariants.ExactTimes, declared.frequencies.Span.Span}
+use Rattle.gtfs_tables.specs.{declared.columns.Column.TheVariants.TripId, declared.faults.FeedFault.FeedFault, declared.frequencies.FrequencyRow.FrequencyRow, Forms.headway_at, Forms.is_usual_at, Forms.service_time_at, TableRows.TableRow, TableRows.id_in, TableRows.value_in, Tables.Table, Answers.◌>>=◌, Trips.place_among}
 use Rattle.gtfs_tables.specs.declared.files.FeedFile.TheVariants as file
-use Rattle.gtfs_tables.specs.declared.frequencies.FrequencyRow.{FrequencyRow}
-use Rattle.gtfs_tables.specs.declared.frequencies.Span.{Span}
-use Rattle.gtfs_tables.specs.Answers.{◌>>=◌}
-use Rattle.gtfs_tables.specs.Forms.{headway_at, is_usual_at, service_time_at}
-use Rattle.gtfs_tables.specs.TableRows.{TableRow, id_in, value_in}
-use Rattle.gtfs_tables.specs.Tables.{Table}
-use Rattle.gtfs_tables.specs.Trips.{place_among}
 
 -- what a row says
 pub record Frequency : Type 0 where

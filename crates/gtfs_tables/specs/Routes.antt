@@ -1,15 +1,10 @@
 -- routes.txt
 use Rattle.std.specs.Prelude.{[], ◌∷◌, true, bytes_eq, Some, Result, Ok}
-use Rattle.plan_base.specs.declared.limits.Caps.{Caps}
+use Rattle.plan_base.specs.{Caps}
 use Rattle.plan_base.specs.declared.limits.Kind.TheVariants as kind
-use Rattle.gtfs_tables.specs.declared.columns.Column.TheVariants.{RouteId, RouteType}
-use Rattle.gtfs_tables.specs.declared.faults.FeedFault.{FeedFault}
+pub use Rattle.gtfs_tables.specs.declared.columns.Column.TheVariants.{RouteId, RouteType}
+use Rattle.gtfs_tables.specs.{declared.faults.FeedFault.FeedFault, declared.routes.RouteRow.RouteRow, Forms.letter_of_type, Forms.up_to_nine_digits_at, TableRows.TableRow, TableRows.id_in, TableRows.value_in, Answers.◌>>=◌, Tables.Table}
 use Rattle.gtfs_tables.specs.declared.files.FeedFile.TheVariants as file
-use Rattle.gtfs_tables.specs.declared.routes.RouteRow.{RouteRow}
-use Rattle.gtfs_tables.specs.Answers.{◌>>=◌}
-use Rattle.gtfs_tables.specs.Forms.{letter_of_type, up_to_nine_digits_at}
-use Rattle.gtfs_tables.specs.TableRows.{TableRow, id_in, value_in}
-use Rattle.gtfs_tables.specs.Tables.{Table}
 
 abbrev pub route_in : TableRow → Result RouteRow FeedFault
 route_in row = do

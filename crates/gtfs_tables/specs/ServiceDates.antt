@@ -1,16 +1,11 @@
 -- calendar_dates.txt
 use Rattle.std.specs.Prelude.{ℕ, List, [], ◌∷◌, Bool, true, bytes_eq, nat_eq, ◌&&◌, Some, Result, Ok}
-use Rattle.plan_base.specs.declared.limits.Caps.{Caps}
+use Rattle.plan_base.specs.{Caps}
 use Rattle.plan_base.specs.declared.limits.Kind.TheVariants as kind
 use Rattle.gtfs_tables.specs.declared.columns.Column.TheVariants as column
-use Rattle.gtfs_tables.specs.declared.faults.FeedFault.{FeedFault}
+use Rattle.gtfs_tables.specs.{declared.faults.FeedFault.FeedFault, declared.dates.DateRow.DateRow, Forms.added_at, TableRows.TableRow, TableRows.id_in, TableRows.value_in, Answers.◌>>=◌, Tables.Table}
 use Rattle.gtfs_tables.specs.declared.files.FeedFile.TheVariants as file
-use Rattle.gtfs_tables.specs.declared.dates.DateRow.{DateRow}
-use Rattle.gtfs_tables.specs.Answers.{◌>>=◌}
-use Rattle.service_days.specs.Dates.{date_at}
-use Rattle.gtfs_tables.specs.Forms.{added_at}
-use Rattle.gtfs_tables.specs.TableRows.{TableRow, id_in, value_in}
-use Rattle.gtfs_tables.specs.Tables.{Table}
+use Rattle.service_days.specs.{date_at}
 
 abbrev pub date_in : TableRow → Result DateRow FeedFault
 date_in row = do

@@ -1,17 +1,11 @@
 -- calendar.txt
 use Rattle.std.specs.Prelude.{List, [], ◌∷◌, Bool, true, bytes_eq, Some, Result, Ok}
-use Rattle.plan_base.specs.declared.limits.Caps.{Caps}
+use Rattle.plan_base.specs.{Caps}
 use Rattle.plan_base.specs.declared.limits.Kind.TheVariants as kind
-use Rattle.service_days.specs.declared.services.ServiceRule.{ServiceRule}
-use Rattle.gtfs_tables.specs.declared.columns.Column.TheVariants.{ServiceId, Monday, Tuesday, Wednesday, Thursday, Friday, Saturday, Sunday, StartDate, EndDate}
-use Rattle.gtfs_tables.specs.declared.faults.FeedFault.{FeedFault}
+use Rattle.service_days.specs.{ServiceRule, date_at}
+pub use Rattle.gtfs_tables.specs.declared.columns.Column.TheVariants.{ServiceId, Monday, Tuesday, Wednesday, Thursday, Friday, Saturday, Sunday, StartDate, EndDate}
+use Rattle.gtfs_tables.specs.{declared.faults.FeedFault.FeedFault, declared.services.ServiceRow.ServiceRow, Forms.flag_at, TableRows.TableRow, TableRows.id_in, TableRows.value_in, Answers.◌>>=◌, Tables.Table}
 use Rattle.gtfs_tables.specs.declared.files.FeedFile.TheVariants as file
-use Rattle.gtfs_tables.specs.declared.services.ServiceRow.{ServiceRow}
-use Rattle.gtfs_tables.specs.Answers.{◌>>=◌}
-use Rattle.service_days.specs.Dates.{date_at}
-use Rattle.gtfs_tables.specs.Forms.{flag_at}
-use Rattle.gtfs_tables.specs.TableRows.{TableRow, id_in, value_in}
-use Rattle.gtfs_tables.specs.Tables.{Table}
 
 -- the weekdays, Monday first
 abbrev pub weekdays_in : TableRow → Result (List Bool) FeedFault

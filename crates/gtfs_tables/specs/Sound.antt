@@ -1,12 +1,7 @@
 -- What a feed that was read keeps.
 use Rattle.std.specs.Prelude.{◌≡◌, ◌<◌, ◌≤◌, ℕ, List, length, map, Bool, true, bytes_eq, nat_eq, ◌&&◌}
 use Rattle.std.specs.List.{AllByRecursion, IsDistinct}
-use Rattle.gtfs_tables.specs.declared.routes.RouteRow.{RouteRow}
-use Rattle.gtfs_tables.specs.declared.trips.TripRow.{TripRow}
-use Rattle.gtfs_tables.specs.declared.frequencies.FrequencyRow.{FrequencyRow}
-use Rattle.gtfs_tables.specs.declared.calls.CallRow.{CallRow}
-use Rattle.gtfs_tables.specs.FeedLists.{FeedLists}
-use Rattle.gtfs_tables.specs.Forms.{is_id}
+use Rattle.gtfs_tables.specs.{declared.routes.RouteRow.RouteRow, declared.trips.TripRow.TripRow, declared.frequencies.FrequencyRow.FrequencyRow, declared.calls.CallRow.CallRow, FeedLists.FeedLists, Forms.is_id}
 
 -- an id: 1 to fewer than 2 ^ 30 bytes of UTF-8
 abbrev pub IsFeedId : List ℕ → Type 0

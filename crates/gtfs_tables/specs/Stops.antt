@@ -1,18 +1,12 @@
 -- stops.txt
 use Rattle.std.specs.Prelude.{ℕ, List, [], ◌∷◌, Bool, true, bytes_eq, Option, None, option_map, Result, Ok, if◌then◌else◌, Some}
-use Rattle.geo_length.specs.Degrees.{degrees_of}
+use Rattle.geo_length.specs.{degrees_of}
 use Rattle.plan_base.specs.PlaceOf as base
-use Rattle.plan_base.specs.declared.limits.Caps.{Caps}
+use Rattle.plan_base.specs.{Caps, Place}
 use Rattle.plan_base.specs.declared.limits.Kind.TheVariants as kind
-use Rattle.plan_base.specs.declared.places.Place.{Place}
-use Rattle.gtfs_tables.specs.declared.columns.Column.TheVariants.{StopId, LocationType, StopLat, StopLon}
-use Rattle.gtfs_tables.specs.declared.faults.FeedFault.{FeedFault}
+pub use Rattle.gtfs_tables.specs.declared.columns.Column.TheVariants.{StopId, LocationType, StopLat, StopLon}
+use Rattle.gtfs_tables.specs.{declared.faults.FeedFault.FeedFault, declared.stops.StopRow.StopRow, Forms.is_usual_at, TableRows.TableRow, TableRows.id_in, TableRows.value_in, Answers.◌>>=◌, Tables.Table}
 use Rattle.gtfs_tables.specs.declared.files.FeedFile.TheVariants as file
-use Rattle.gtfs_tables.specs.declared.stops.StopRow.{StopRow}
-use Rattle.gtfs_tables.specs.Answers.{◌>>=◌}
-use Rattle.gtfs_tables.specs.Forms.{is_usual_at}
-use Rattle.gtfs_tables.specs.TableRows.{TableRow, id_in, value_in}
-use Rattle.gtfs_tables.specs.Tables.{Table}
 
 -- what a row says: a stop has a place
 pub record Location : Type 0 where

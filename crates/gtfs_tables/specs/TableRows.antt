@@ -1,13 +1,7 @@
 -- The rows of tables below their headers, and the values of their fields.
-use Rattle.std.specs.Prelude.{ℕ, List, [], unwrap_or, Option, option_and_then, Result}
-use Rattle.std.specs.Option.{ok_or}
+use Rattle.std.specs.Prelude.{ℕ, List, [], unwrap_or, Option, option_and_then, Result, ok_or}
 use Rattle.csv.specs.Records.{field_at}
-use Rattle.gtfs_tables.specs.declared.columns.Column.{Column}
-use Rattle.gtfs_tables.specs.declared.files.FeedFile.{FeedFile}
-use Rattle.gtfs_tables.specs.declared.faults.FeedFault.{FeedFault}
-use Rattle.gtfs_tables.specs.declared.faults.FeedFault.TheVariants.{BadField}
-use Rattle.gtfs_tables.specs.Columns.{Row, place_of_column}
-use Rattle.gtfs_tables.specs.Forms.{feed_id_at, trimmed}
+use Rattle.gtfs_tables.specs.{declared.columns.Column.Column, declared.files.FeedFile.FeedFile, declared.faults.FeedFault.FeedFault, declared.faults.FeedFault.TheVariants.BadField, Columns.Row, Columns.place_of_column, Forms.feed_id_at, Forms.trimmed}
 
 -- a row of a file: its number, where the header is row 1, the header, and the fields of the row
 pub record TableRow : Type 0 where

@@ -4,14 +4,8 @@ use Rattle.std.specs.Prelude.{ℕ, ◌+◌, ◌≤◌, List, [], ◌∷◌, ◌+
 use Rattle.std.specs.Option.{option_or}
 use Rattle.std.specs.List.{list_any}
 use Rattle.csv.specs.Reading.{default_config, records, strip_bom}
-use Rattle.plan_base.specs.declared.limits.Kind.{Kind}
-use Rattle.gtfs_tables.specs.declared.columns.Column.{Column}
-use Rattle.gtfs_tables.specs.declared.files.FeedFile.{FeedFile}
-use Rattle.gtfs_tables.specs.declared.faults.FeedFault.{FeedFault}
-use Rattle.gtfs_tables.specs.declared.faults.FeedFault.TheVariants.{MissingColumn, RepeatedKey, DanglingKey, MixedZones, TooMany}
-use Rattle.gtfs_tables.specs.Answers.{◌>>=◌, faultless}
-use Rattle.gtfs_tables.specs.Columns.{Row, first_missing}
-use Rattle.gtfs_tables.specs.TableRows.{TableRow}
+use Rattle.plan_base.specs.{Kind}
+use Rattle.gtfs_tables.specs.{declared.columns.Column.Column, declared.files.FeedFile.FeedFile, declared.faults.FeedFault.FeedFault, declared.faults.FeedFault.TheVariants.MissingColumn, declared.faults.FeedFault.TheVariants.RepeatedKey, declared.faults.FeedFault.TheVariants.DanglingKey, declared.faults.FeedFault.TheVariants.MixedZones, declared.faults.FeedFault.TheVariants.TooMany, Answers.◌>>=◌, Answers.faultless, Columns.Row, Columns.first_missing, TableRows.TableRow}
 
 -- the rules of a table whose rows say an F each, and give a record R or nothing
 pub record Table (F R : Type 0) : Type 0 where

@@ -1,14 +1,10 @@
 -- trips.txt
 use Rattle.std.specs.Prelude.{ℕ, List, [], ◌∷◌, true, bytes_eq, position, is_some, Option, option_map, Result, Ok, Some}
-use Rattle.plan_base.specs.declared.limits.Caps.{Caps}
+use Rattle.plan_base.specs.{Caps}
 use Rattle.plan_base.specs.declared.limits.Kind.TheVariants as kind
-use Rattle.gtfs_tables.specs.declared.columns.Column.TheVariants.{TripId, RouteId, ServiceId}
-use Rattle.gtfs_tables.specs.declared.faults.FeedFault.{FeedFault}
+pub use Rattle.gtfs_tables.specs.declared.columns.Column.TheVariants.{TripId}
+use Rattle.gtfs_tables.specs.{declared.columns.Column.TheVariants.RouteId, declared.columns.Column.TheVariants.ServiceId, declared.faults.FeedFault.FeedFault, declared.trips.TripRow.TripRow, TableRows.TableRow, TableRows.id_in, Answers.◌>>=◌, Tables.Table}
 use Rattle.gtfs_tables.specs.declared.files.FeedFile.TheVariants as file
-use Rattle.gtfs_tables.specs.declared.trips.TripRow.{TripRow}
-use Rattle.gtfs_tables.specs.Answers.{◌>>=◌}
-use Rattle.gtfs_tables.specs.TableRows.{TableRow, id_in}
-use Rattle.gtfs_tables.specs.Tables.{Table}
 
 -- the place of an id in a list of ids
 abbrev pub place_among : List (List ℕ) → List ℕ → Option ℕ

@@ -53,7 +53,7 @@ impl Model for Ids {
 }
 
 impl Ids {
-    ghost use Rattle.std.specs.Prelude.{◌∷◌, [], ◌++◌, ◌<◌, ◌^◌, length, bytes_eq, not, IfOk, IfSome, IsTrue};
+    ghost use Rattle.std.specs.Prelude.{◌∷◌, [], ◌++◌, ◌<◌, length, bytes_eq, not, IfOk, IfSome, IsTrue};
     ghost use Rattle.std.specs.List.{list_any};
     ghost use Rattle.gtfs_tables.specs.Trips.{place_among};
 

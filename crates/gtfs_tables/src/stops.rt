@@ -1,6 +1,6 @@
 //! stops.txt
 
-ghost use Rattle.std.specs.Prelude.{◌≡◌, [], ◌∷◌, ◌++◌, map, false, bytes_eq, option_map, option_to_list, Ok, Err, IfErr, IfOk, MatchResult, OnOk};
+ghost use Rattle.std.specs.Prelude.{◌≡◌, [], ◌++◌, map, false, bytes_eq, option_map, option_to_list, Ok, Err, IfErr, IfOk, MatchResult, OnOk};
 ghost use Rattle.std.specs.List.{list_any};
 ghost use Rattle.gtfs_tables.specs.Answers.{IsFaultOf};
 ghost use Rattle.gtfs_tables.specs.FeedLists.{bytes_of};

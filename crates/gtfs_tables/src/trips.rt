@@ -1,6 +1,6 @@
 //! trips.txt
 
-ghost use Rattle.std.specs.Prelude.{◌≡◌, ◌≤◌, ◌^◌, [], ◌∷◌, ◌++◌, length, map, Ok, Err, IfErr, IfOk, MatchResult, OnOk};
+ghost use Rattle.std.specs.Prelude.{◌≡◌, ◌≤◌, ◌^◌, [], length, map, Ok, Err, IfErr, IfOk, MatchResult};
 ghost use Rattle.gtfs_tables.specs.Answers.{IsFaultOf};
 ghost use Rattle.gtfs_tables.specs.FeedLists.{bytes_of};
 ghost use Rattle.gtfs_tables.specs.inside.Holding.{AreRead, HoldsListed};

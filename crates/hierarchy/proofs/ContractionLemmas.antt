@@ -1,18 +1,9 @@
 -- One contraction keeps a hierarchy sound.
-use Rattle.std.proofs.Common.{◌≡◌, ℕ, suc, ◌+◌, ◌<◌, ◌≤◌, ◌⊎◌, inl, inr, Bool, true, false, cond, nat_eq, List, [], ◌∷◌, ◌++◌, ◌∙◌, length, map, get_or, Some, None, refl, sym, ap, subst, arith}
-use Rattle.std.specs.Prelude.{Option, All, Contains, ◌≢◌}
-use Rattle.std.proofs.lemmas.Bool.{cases_lt, cases_eq, eq-eqb, ne_eqb}
-use Rattle.std.proofs.lemmas.List.{get_or_append_left, get_or_push, length_push}
-use Rattle.std.proofs.lemmas.List.Elements.{All-contains, Contains-get_or}
-use Rattle.search_laws.specs.Firsts.{HoldsBelow}
+use Rattle.plan_base.proofs.Common.{◌≡◌, ℕ, suc, ◌+◌, ◌<◌, ◌≤◌, ◌⊎◌, inl, inr, Bool, true, false, cond, nat_eq, List, [], ◌∷◌, ◌++◌, ◌∙◌, length, map, get_or, Some, None, refl, sym, ap, subst, arith, Option, All, Contains, ◌≢◌, cases_lt, cases_eq, eq-eqb, ne_eqb, get_or_append_left, get_or_push, length_push, All-contains, Contains-get_or}
+use Rattle.search_laws.specs.{HoldsBelow}
 use Rattle.mode_network.specs.NetworkLists.{NetworkLists}
-use Rattle.hierarchy.specs.declared.entry.Entry.{Entry}
-use Rattle.hierarchy.specs.Hops.{Hop, AreHops, AreHigh, total, nodes_along}
-use Rattle.hierarchy.specs.Lists.{HierarchyLists, height_in}
-use Rattle.hierarchy.specs.Soundness.{HasEntry, HasLighter, IsFree, MayStandAt, FitsLayer, IsMadeBy, IsMade, IsBridged, NodeIsBridged, IsSound}
-use Rattle.hierarchy.specs.Contraction.{IsShortcut, IsContractedNext, ContractionsKeepSoundness}
-use Rattle.hierarchy.proofs.HeightLemmas.{height_most, height_least}
-use Rattle.hierarchy.proofs.SoundLemmas.{fits, bridged}
+use Rattle.hierarchy.specs.{Entry, Hop, AreHops, AreHigh, total, nodes_along, HierarchyLists, height_in, HasEntry, HasLighter, IsFree, MayStandAt, FitsLayer, IsMadeBy, IsMade, IsBridged, NodeIsBridged, IsSound, IsShortcut, IsContractedNext, ContractionsKeepSoundness}
+use Rattle.hierarchy.proofs.{HeightLemmas.height_most, HeightLemmas.height_least, SoundLemmas.fits, SoundLemmas.bridged}
 
 -- ---- heights after one node more
 

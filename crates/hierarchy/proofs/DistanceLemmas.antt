@@ -1,17 +1,8 @@
 -- Entries keep the roads' distances between core nodes.
-use Rattle.std.proofs.Common.{◌≡◌, ℕ, ◌<◌, ◌≤◌, ◌⊎◌, inl, inr, List, [], ◌∷◌, ◌++◌, length, refl, sym, subst, arith}
-use Rattle.std.proofs.lemmas.List.Elements.{All-contains}
-use Rattle.mode_network.specs.NetworkLists.{NetworkLists}
-use Rattle.mode_network.specs.Journeys.{Leads}
-use Rattle.hierarchy.specs.Hops.{Hop, AreHops, AreAll, total, IsDescent}
-use Rattle.hierarchy.specs.Lists.{HierarchyLists, height_in, IsCore}
-use Rattle.hierarchy.specs.Soundness.{HasEntry, IsSound, IsCovered}
-use Rattle.hierarchy.specs.Contraction.{HasCoreWalk, HasRoads, CoresKeepDistances, EntriesAreRoads}
-use Rattle.hierarchy.proofs.HopLemmas.{hops_then, total-append}
-use Rattle.hierarchy.proofs.HeightLemmas.{height_most}
-use Rattle.hierarchy.proofs.Shapes.{IsShaped}
-use Rattle.hierarchy.proofs.SoundLemmas.{shaped}
-use Rattle.hierarchy.proofs.RoadLemmas.{roads_under}
+use Rattle.plan_base.proofs.Common.{◌≡◌, ℕ, ◌<◌, ◌≤◌, ◌⊎◌, inl, inr, List, [], ◌∷◌, ◌++◌, length, refl, sym, subst, arith, All-contains}
+use Rattle.mode_network.specs.{NetworkLists.NetworkLists, Leads}
+use Rattle.hierarchy.specs.{Hop, AreHops, AreAll, total, IsDescent, HierarchyLists, height_in, IsCore, HasEntry, IsSound, IsCovered, HasCoreWalk, HasRoads, CoresKeepDistances, EntriesAreRoads}
+use Rattle.hierarchy.proofs.{HopLemmas.hops_then, HopLemmas.total-append, HeightLemmas.height_most, Shapes.IsShaped, SoundLemmas.shaped, RoadLemmas.roads_under}
 
 -- a walk over other entries, no heavier
 pub record IsLighter (h : HierarchyLists) (u v limit : ℕ) : Type 0 where

@@ -1,9 +1,6 @@
 -- Heights in an order, and the table of them.
-use Rattle.std.proofs.Common.{◌≡◌, ℕ, ◌+◌, ◌<◌, ◌≤◌, suc, zero, nat_eq, Bool, true, false, cond, List, [], ◌∷◌, length, drop, get_or, refl, ap, arith}
-use Rattle.std.specs.Prelude.{All}
-use Rattle.std.proofs.lemmas.Bool.{eqb-true, eq-eqb, ne_eqb}
-use Rattle.std.proofs.lemmas.List.Elements.{All-head, All-tail}
-use Rattle.hierarchy.specs.Lists.{height_in}
+use Rattle.plan_base.proofs.Common.{◌≡◌, ℕ, ◌+◌, ◌<◌, ◌≤◌, suc, zero, nat_eq, Bool, true, false, cond, List, [], ◌∷◌, length, drop, get_or, refl, ap, arith, All, eqb-true, eq-eqb, ne_eqb, All-head, All-tail}
+use Rattle.hierarchy.specs.{height_in}
 
 -- no node is higher than the order is long
 pub height_most : (order : List ℕ) (v : ℕ) → height_in order v ≤ length order

@@ -1,6 +1,6 @@
 -- Walks as lists of hops, one after the other.
-use Rattle.std.proofs.Common.{◌≡◌, ℕ, ◌+◌, List, [], ◌∷◌, ◌++◌, subst, arith}
-use Rattle.hierarchy.specs.Hops.{Hop, AreHops, total}
+use Rattle.plan_base.proofs.Common.{◌≡◌, ℕ, ◌+◌, List, [], ◌∷◌, ◌++◌, subst, arith}
+use Rattle.hierarchy.specs.{Hop, AreHops, total}
 
 pub hops_then : (Leads : ℕ → ℕ → ℕ → Type 0) (p q : List Hop) (u m v : ℕ) → AreHops Leads u p m → AreHops Leads m q v → AreHops Leads u (p ++ q) v
 hops_then Leads [] q u m v first second = subst (λ x. AreHops Leads x q v) first second

@@ -1,21 +1,8 @@
 -- What a binary search finds among entries and witnesses.
-use Rattle.std.proofs.Common.{◌≡◌, ℕ, ◌+◌, ◌-◌, ◌<◌, ◌≤◌, ◌⊎◌, inl, inr, ◌∙◌, List, length, get_or, refl, ap, sym, subst, arith, Ordering, Less, Equal, Greater}
-use Rattle.std.specs.Prelude.{Option, Some, Contains, slice_range}
-use Rattle.std.specs.List.Sorted.{IsNonDecreasingBy, IsPartitionPoint}
-use Rattle.std.specs.Ordering.{ordering_then, ordering_index, nat_cmp, MatchOrdering}
-use Rattle.std.specs.Cmp.{IsTotalOrder, ranks as nat_ranks}
-use Rattle.std.proofs.lemmas.Bool.{cases_lt}
-use Rattle.std.proofs.lemmas.Cmp.{then_total, on_total, nat_cmp_total, tied_itself}
-use Rattle.std.proofs.lemmas.List.{get_or_default}
-use Rattle.std.proofs.lemmas.Map.Lookups.{exact_unsigned}
-use Rattle.std.proofs.lemmas.Option.{slice_get-get_or}
-use Rattle.mode_network.proofs.FindLemmas.{answers_rise, not_there, same_ends}
-use Rattle.hierarchy.specs.declared.entry.Entry.{Entry}
-use Rattle.hierarchy.specs.Lists.{WitnessLists, first_of, last_of}
-use Rattle.mode_network.specs.Rules.{IsAscending}
-use Rattle.hierarchy.specs.Rules.{entry_cmp, witness_cmp}
-use Rattle.hierarchy.specs.Soundness.{HasEntry}
-use Rattle.hierarchy.specs.Lookups.{AreFrom, IsEntryFor, HasNoEntry, IsWitnessFor, HasNoWitness, from_of}
+use Rattle.plan_base.proofs.Common.{◌≡◌, ℕ, ◌+◌, ◌-◌, ◌<◌, ◌≤◌, ◌⊎◌, inl, inr, ◌∙◌, List, length, get_or, refl, ap, sym, subst, arith, Option, Some, Contains, slice_range, IsNonDecreasingBy, IsPartitionPoint, ordering_then, ordering_index, nat_cmp, MatchOrdering, IsTotalOrder, ranks as nat_ranks, cases_lt, then_total, on_total, nat_cmp_total, tied_itself, get_or_default, exact_unsigned, slice_get-get_or, Ordering, Less, Equal, Greater}
+use Rattle.mode_network.proofs.{KeyLemmas.first_less, FindLemmas.answers_rise, FindLemmas.not_there, FindLemmas.same_ends}
+use Rattle.hierarchy.specs.{Entry, WitnessLists, first_of, last_of, entry_cmp, witness_cmp, HasEntry, AreFrom, IsEntryFor, HasNoEntry, IsWitnessFor, HasNoWitness, from_of}
+use Rattle.mode_network.specs.{IsAscending}
 use Rattle.hierarchy.proofs.PlaceLemmas.{range_length, range_read}
 
 -- ---- entries
@@ -85,14 +72,7 @@ pub from_rises : (entries : List Entry) → IsAscending entry_cmp entries → Is
 from_rises entries ascend i j d le lt = elim (cases_lt i j) [
   | inl before ↦ first_less (get_or entries i d).from (get_or entries j d).from (nat_cmp (get_or entries i d).to (get_or entries j d).to) (ascend i j d before lt)
   | inr after ↦ (let same : i ≡ j = omega arith in subst (λ k. (get_or entries i d).from ≤ (get_or entries k d).from) same (omega arith))
-] where
-  first_less : (a b : ℕ) (o : Ordering) → ordering_then (nat_cmp a b) o ≡ Less → a ≤ b
-  first_less a b o e = by_order (nat_cmp a b) (nat_ranks a b) e
-    where
-      by_order : (r : Ordering) → MatchOrdering r (a < b) (a ≡ b) (b < a) → ordering_then r o ≡ Less → a ≤ b
-      by_order Less h e = omega arith
-      by_order Equal h e = omega arith
-      by_order Greater h e = cc
+]
 
 -- what is listed with the ends of an entry is that entry
 pub entry_once : (entries : List Entry) → IsAscending entry_cmp entries → (a b : Entry) → Contains entries a → Contains entries b → a.from ≡ b.from → a.to ≡ b.to → a ≡ b

@@ -1,24 +1,11 @@
 -- The rises among entries, those that begin at one node, and their places.
-use Rattle.std.proofs.Common.{◌≡◌, ℕ, ◌+◌, ◌-◌, ◌<◌, ◌≤◌, ◌∙◌, nat_lt, cond, true, List, ◌++◌, length, length-append, map, take, drop, get_or, ap, arith, sym, subst, inl, inr}
-use Rattle.std.specs.Prelude.{All, AllPairs, Contains, filter, slice_get, slice_range, Some}
-use Rattle.std.specs.List.{range_with_len}
-use Rattle.std.specs.List.Sorted.{IsNonDecreasingBy}
-use Rattle.std.proofs.lemmas.Bool.{cases_lt, cases_eq}
-use Rattle.std.proofs.lemmas.List.{drop-map, get_or-append-add, get_or-map, get_or_default, length-map, map-append, map-id, take-map}
-use Rattle.std.proofs.lemmas.List.Elements.{All-map}
-use Rattle.std.proofs.lemmas.List.Sums.{sum_by-append}
-use Rattle.std.proofs.lemmas.Option.{slice_get_within, get_or_from_slice_get}
+use Rattle.plan_base.proofs.Common.{◌≡◌, ℕ, ◌+◌, ◌-◌, ◌<◌, ◌≤◌, ◌∙◌, nat_lt, cond, true, List, ◌++◌, length, length-append, map, take, drop, get_or, ap, arith, sym, subst, inl, inr, All, AllPairs, Contains, filter, slice_get, slice_range, Some, range_with_len, IsNonDecreasingBy, cases_lt, cases_eq, drop-map, get_or-append-add, get_or-map, get_or_default, length-map, map-append, take-map, All-map, sum_by-append, slice_get_within, get_or_from_slice_get}
+use Rattle.std.proofs.Common.{map-id}
 use Rattle.std.proofs.lemmas.Simd.{map-map}
-use Rattle.hierarchy.specs.declared.entry.Entry.{Entry}
-use Rattle.hierarchy.specs.declared.tables.NodeRow.{NodeRow}
-use Rattle.hierarchy.specs.Lists.{HierarchyLists}
-use Rattle.hierarchy.specs.Lookups.{ArePlaces, count_below, entry_at, from_of, no_entry, places_before, places_of, range_of}
-use Rattle.hierarchy.specs.Rules.{IsHierarchy}
-use Rattle.hierarchy.specs.Indexes.{AreEndsBelow, AreRows}
-use Rattle.hierarchy.specs.Rises.{AreRises, AreRisesFrom, IsRiseRange, IsRiseOf, Rise, RisesFrom, all_rises, is_rise, place_of, rise_at, rise_from, rise_places_from, rises_in, rises_of}
-use Rattle.hierarchy.proofs.LookupLemmas.{from_rises}
-use Rattle.hierarchy.proofs.OffsetLemmas.{above_stands_after, below_stands_before, count_all, count_most, count_none, count_rises, in_range_of_key, key_in_range}
-use Rattle.hierarchy.proofs.PlaceLemmas.{Contains-map, places_ascend, places_from, places_have, places_pass, places_split, places_within, range_all, range_has, range_length, range_read}
+use Rattle.mode_network.specs.{count_below, range_of}
+use Rattle.hierarchy.specs.{Entry, NodeRow, HierarchyLists, ArePlaces, entry_at, from_of, no_entry, places_before, places_of, IsHierarchy, AreEndsBelow, AreRows, AreRises, AreRisesFrom, IsRiseRange, IsRiseOf, Rise, RisesFrom, all_rises, is_rise, place_of, rise_at, rise_from, rise_places_from, rises_in, rises_of}
+use Rattle.hierarchy.proofs.{LookupLemmas.from_rises, PlaceLemmas.Contains-map, PlaceLemmas.places_ascend, PlaceLemmas.places_from, PlaceLemmas.places_have, PlaceLemmas.places_pass, PlaceLemmas.places_split, PlaceLemmas.places_within, PlaceLemmas.range_all, PlaceLemmas.range_has, PlaceLemmas.range_length, PlaceLemmas.range_read}
+use Rattle.mode_network.proofs.KeyLemmas.{above_stands_after, below_stands_before, count_all, count_most, count_none, count_rises, in_range_of_key, key_in_range}
 
 -- ---- all of them
 

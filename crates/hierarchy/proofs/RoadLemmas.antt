@@ -1,15 +1,8 @@
 -- The road arcs under an entry.
-use Rattle.std.proofs.Common.{◌≡◌, ℕ, zero, suc, ◌<◌, ◌≤◌, List, [], ◌∷◌, ◌++◌, Some, None, length, refl, arith}
-use Rattle.std.specs.Prelude.{Option, Contains}
-use Rattle.std.proofs.lemmas.List.Elements.{All-contains}
-use Rattle.mode_network.specs.NetworkLists.{NetworkLists}
-use Rattle.mode_network.specs.Journeys.{Leads}
-use Rattle.hierarchy.specs.declared.entry.Entry.{Entry}
-use Rattle.hierarchy.specs.Hops.{Hop, AreHops, total}
-use Rattle.hierarchy.specs.Lists.{HierarchyLists, height_in}
-use Rattle.hierarchy.specs.Soundness.{HasEntry, IsSound, IsMade, IsMadeBy}
-use Rattle.hierarchy.proofs.HopLemmas.{hops_then, total-append}
-use Rattle.hierarchy.proofs.HeightLemmas.{height_most}
+use Rattle.plan_base.proofs.Common.{◌≡◌, ℕ, zero, suc, ◌<◌, ◌≤◌, List, [], ◌∷◌, ◌++◌, Some, None, length, refl, arith, Option, Contains, All-contains}
+use Rattle.mode_network.specs.{NetworkLists.NetworkLists, Leads}
+use Rattle.hierarchy.specs.{Entry, Hop, AreHops, total, HierarchyLists, height_in, HasEntry, IsSound, IsMade, IsMadeBy}
+use Rattle.hierarchy.proofs.{HopLemmas.hops_then, HopLemmas.total-append, HeightLemmas.height_most}
 
 -- road arcs lead from u to v and take together as long as the entry weighs
 pub record Roads (n : NetworkLists) (u v a : ℕ) : Type 0 where

@@ -1,8 +1,7 @@
 -- Walks that nowhere dip: whatever a walk passes below its neighbours is replaced by something higher, lowest nodes first. What
 -- remains climbs, goes on along the top, and descends.
-use Rattle.std.proofs.Common.{◌≡◌, ℕ, zero, suc, ◌+◌, ◌<◌, ◌≤◌, ◌⊎◌, inl, inr, List, [], ◌∷◌, ◌++◌, ◌∙◌, sym, subst, arith}
-use Rattle.std.proofs.lemmas.Bool.{cases_lt, cases_order}
-use Rattle.hierarchy.specs.Hops.{Hop, AreHops, total, AreHigh, IsDescent}
+use Rattle.plan_base.proofs.Common.{◌≡◌, ℕ, zero, suc, ◌+◌, ◌<◌, ◌≤◌, ◌⊎◌, inl, inr, List, [], ◌∷◌, ◌++◌, ◌∙◌, sym, subst, arith, cases_lt, cases_order}
+use Rattle.hierarchy.specs.{Hop, AreHops, total, AreHigh, IsDescent}
 use Rattle.hierarchy.proofs.HopLemmas.{hops_then, total-append}
 
 -- between the node u before it and the next node, both higher, x is no node of a height below k

@@ -1,15 +1,8 @@
 -- What soundness says of walks over entries.
-use Rattle.std.proofs.Common.{◌≡◌, ℕ, ◌+◌, ◌<◌, ◌≤◌, inl, inr, List, [], ◌∷◌, ◌∙◌, length, get_or, refl, sym, ap, subst, arith}
-use Rattle.std.specs.Prelude.{Option, Contains, ◌≢◌}
-use Rattle.std.proofs.lemmas.Bool.{cases_lt, cases_eq}
-use Rattle.std.proofs.lemmas.List.Elements.{All-contains}
+use Rattle.plan_base.proofs.Common.{◌≡◌, ℕ, ◌+◌, ◌<◌, ◌≤◌, inl, inr, List, [], ◌∷◌, ◌∙◌, length, get_or, refl, sym, ap, subst, arith, Option, Contains, ◌≢◌, cases_lt, cases_eq, All-contains}
 use Rattle.mode_network.specs.NetworkLists.{NetworkLists}
-use Rattle.hierarchy.specs.declared.entry.Entry.{Entry}
-use Rattle.hierarchy.specs.Hops.{Hop, AreHops, total}
-use Rattle.hierarchy.specs.Lists.{HierarchyLists, height_in}
-use Rattle.hierarchy.specs.Soundness.{HasEntry, IsSound, IsBridged, FitsLayer, IsFree, NodeIsBridged, PairsAreBridged, PairIsBridged}
-use Rattle.hierarchy.proofs.HeightLemmas.{height_most, height_is}
-use Rattle.hierarchy.proofs.Shapes.{IsBridge, IsShaped, clear, shape}
+use Rattle.hierarchy.specs.{Entry, Hop, AreHops, total, HierarchyLists, height_in, HasEntry, IsSound, IsBridged, FitsLayer, IsFree, NodeIsBridged, PairsAreBridged, PairIsBridged}
+use Rattle.hierarchy.proofs.{HeightLemmas.height_most, HeightLemmas.height_is, Shapes.IsBridge, Shapes.IsShaped, Shapes.clear, Shapes.shape}
 
 abbrev entry_of : ℕ → ℕ → ℕ → Option ℕ → Entry
 entry_of u v weight via = record { from = u; to = v; weight = weight; via = via }

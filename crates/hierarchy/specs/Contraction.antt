@@ -1,11 +1,7 @@
 -- One contraction, and what entries keep of the roads.
 use Rattle.std.specs.Prelude.{◌≡◌, ◌≢◌, ℕ, ◌+◌, ◌<◌, ◌≤◌, ◌^◌, ◌⊎◌, List, [], ◌∷◌, ◌++◌, Some, All, Contains}
-use Rattle.mode_network.specs.NetworkLists.{NetworkLists}
-use Rattle.mode_network.specs.Journeys.{Leads}
-use Rattle.hierarchy.specs.declared.entry.Entry.{Entry}
-use Rattle.hierarchy.specs.Hops.{Hop, AreHops, AreAll, total}
-use Rattle.hierarchy.specs.Lists.{HierarchyLists, IsCore, IsContracted}
-use Rattle.hierarchy.specs.Soundness.{HasEntry, HasLighter, IsFree, IsBridged, IsSound}
+use Rattle.mode_network.specs.{NetworkLists.NetworkLists, Leads}
+use Rattle.hierarchy.specs.{declared.entry.Entry.Entry, Hops.Hop, Hops.AreHops, Hops.AreAll, Hops.total, Lists.HierarchyLists, Lists.IsCore, Lists.IsContracted, Soundness.HasEntry, Soundness.HasLighter, Soundness.IsFree, Soundness.IsBridged, Soundness.IsSound}
 
 -- an entry by way of x between two other core nodes
 pub record IsShortcut (h : HierarchyLists) (x : ℕ) (e : Entry) : Type 0 where

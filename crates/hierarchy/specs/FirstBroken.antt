@@ -1,13 +1,9 @@
 -- The verdict on a hierarchy: it is sound, or the first clause that fails is named, at its least place.
-use Rattle.std.specs.Prelude.{◌≡◌, ℕ, ◌⊎◌, List, length, Some, All, slice_get}
-use Rattle.std.specs.List.{HoldsAt}
-use Rattle.search_laws.specs.Firsts.{HoldsBelow, FailsFirstAt}
+use Rattle.std.specs.Prelude.{◌≡◌, ℕ, ◌⊎◌, List, length, Some, All, slice_get, HoldsAt}
+use Rattle.search_laws.specs.{HoldsBelow, FailsFirstAt}
 use Rattle.mode_network.specs.NetworkLists.{NetworkLists}
-use Rattle.hierarchy.specs.declared.entry.Entry.{Entry}
-use Rattle.hierarchy.specs.declared.verdict.Verdict.{Verdict}
-use Rattle.hierarchy.specs.declared.verdict.Verdict.TheVariants.{Sound, Broken}
-use Rattle.hierarchy.specs.Lists.{HierarchyLists}
-use Rattle.hierarchy.specs.Soundness.{MayStandAt, FitsLayer, IsCovered, IsMade, NodeIsBridged, PairsAreBridged, PairIsBridged, IsSound}
+use Rattle.hierarchy.specs.{declared.entry.Entry.Entry, Lists.HierarchyLists, Soundness.MayStandAt, Soundness.FitsLayer, Soundness.IsCovered, Soundness.IsMade, Soundness.NodeIsBridged, Soundness.PairsAreBridged, Soundness.PairIsBridged, Soundness.IsSound}
+pub use Rattle.hierarchy.specs.{declared.verdict.Verdict.Verdict, declared.verdict.Verdict.TheVariants.Sound, declared.verdict.Verdict.TheVariants.Broken}
 
 -- P fails of the element at k, and of none before it
 abbrev pub FailsFirst : {X : Type 0} → (X → Type 0) → List X → ℕ → Type 0

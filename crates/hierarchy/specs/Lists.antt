@@ -1,6 +1,6 @@
 -- What a hierarchy consists of, as lists; and which nodes are above which.
 use Rattle.std.specs.Prelude.{ℕ, suc, ◌<◌, ◌-◌, ◌==◌, nat_lt, Bool, List, [], ◌∷◌, length, slice_index, if◌then◌else◌, ◌≡◌}
-use Rattle.hierarchy.specs.declared.entry.Entry.{Entry}
+pub use Rattle.hierarchy.specs.declared.entry.Entry.{Entry}
 
 -- a walk of nodes, listed for a node below them
 pub record WitnessLists : Type 0 where

@@ -1,10 +1,8 @@
 -- What the lists of a hierarchy are asked for.
-use Rattle.std.specs.Prelude.{◌≡◌, ℕ, ◌+◌, ◌<◌, ◌≤◌, nat_lt, Bool, ◌&&◌, ◌==◌, List, length, map, Some, None, All, AllPairs, Contains, filter, slice_get, slice_index_or, count_by}
+use Rattle.std.specs.Prelude.{◌≡◌, ℕ, ◌<◌, ◌≤◌, Bool, ◌&&◌, ◌==◌, List, length, map, Some, None, All, AllPairs, Contains, filter, slice_get, slice_index_or}
 use Rattle.std.specs.List.{range_with_len}
-use Rattle.hierarchy.specs.declared.entry.Entry.{Entry}
-use Rattle.hierarchy.specs.declared.falls.Fall.{Fall}
-use Rattle.hierarchy.specs.Lists.{HierarchyLists, WitnessLists, IsAbove, first_of, is_above, last_of}
-use Rattle.hierarchy.specs.Soundness.{HasEntry}
+use Rattle.hierarchy.specs.{declared.entry.Entry.Entry, Lists.HierarchyLists, Lists.WitnessLists, Lists.IsAbove, Lists.first_of, Lists.is_above, Lists.last_of, Soundness.HasEntry}
+pub use Rattle.hierarchy.specs.declared.falls.Fall.{Fall}
 
 -- the listed entry leads from u to v
 pub record IsEntryFor (entries : List Entry) (u v : ℕ) (e : Entry) : Type 0 where
@@ -24,14 +22,6 @@ pub record IsWitnessFor (witnesses : List WitnessLists) (below first last : ℕ)
 
 abbrev pub HasNoWitness : List WitnessLists → ℕ → ℕ → ℕ → Type 0
 HasNoWitness witnesses below first last = (w : WitnessLists) → IsWitnessFor witnesses below first last w → ⊥
-
--- how many rows have a key below v
-abbrev pub count_below : {X : Type 0} → (X → ℕ) → List X → ℕ → ℕ
-count_below key rows v = count_by (λ row. nat_lt (key row) v) rows
-
--- where those whose key is v stand in a list that is ordered by the key: the first place, and one past the last
-abbrev pub range_of : {X : Type 0} → (X → ℕ) → List X → ℕ → ℕ × ℕ
-range_of key rows v = (count_below key rows v, count_below key rows (v + 1))
 
 abbrev pub from_of : Entry → ℕ
 from_of e = e.from

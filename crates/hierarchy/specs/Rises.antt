@@ -2,10 +2,9 @@
 use Rattle.std.specs.Prelude.{◌≡◌, ℕ, ◌*◌, ◌^◌, ◌<◌, ◌≤◌, ◌==◌, ◌||◌, ◌&&◌, nat_lt, Bool, true, if◌then◌else◌, List, [], length, map, All, Contains, slice_range, slice_index_or}
 use Rattle.std.specs.List.{list_all}
 use Rattle.std.specs.List.Sorted.{IsNonDecreasingBy}
-use Rattle.search_laws.specs.declared.graph.Leg.{Leg}
-use Rattle.hierarchy.specs.declared.entry.Entry.{Entry}
-use Rattle.hierarchy.specs.Lists.{HierarchyLists, height_in, is_above}
-use Rattle.hierarchy.specs.Lookups.{range_of, entry_at, places_of}
+use Rattle.search_laws.specs.{Leg}
+use Rattle.hierarchy.specs.{declared.entry.Entry.Entry, Lists.HierarchyLists, Lists.height_in, Lists.is_above, Lookups.entry_at, Lookups.places_of}
+use Rattle.mode_network.specs.{range_of}
 
 abbrev pub is_core : List ℕ → ℕ → Bool
 is_core order v = height_in order v == length order

@@ -2,9 +2,8 @@
 use Rattle.std.specs.Prelude.{ℕ, ◌<◌, ◌≤◌, ◌^◌, length, All, IfSome}
 use Rattle.std.specs.Ordering.{ordering_then, nat_cmp}
 use Rattle.std.specs.declared.cmp.Ordering.{Ordering}
-use Rattle.mode_network.specs.Rules.{IsAscending}
-use Rattle.hierarchy.specs.declared.entry.Entry.{Entry}
-use Rattle.hierarchy.specs.Lists.{HierarchyLists, WitnessLists, first_of, last_of}
+use Rattle.mode_network.specs.{IsAscending}
+use Rattle.hierarchy.specs.{declared.entry.Entry.Entry, Lists.HierarchyLists, Lists.WitnessLists, Lists.first_of, Lists.last_of}
 
 -- by the node that an entry leaves, and then by the node that it leads to
 abbrev pub entry_cmp : Entry → Entry → Ordering

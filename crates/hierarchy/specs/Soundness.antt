@@ -1,13 +1,9 @@
 -- When a hierarchy is sound for a network: then whatever order, shortcuts and witnesses it has, it keeps all distances.
 use Rattle.std.specs.Prelude.{◌≡◌, ◌≢◌, ℕ, ◌+◌, ◌<◌, ◌≤◌, ◌^◌, ◌⊎◌, List, length, Option, Some, None, All, Contains, slice_index_or}
-use Rattle.search_laws.specs.Firsts.{HoldsBelow}
-use Rattle.plan_base.specs.declared.modes.Mode.{Mode}
-use Rattle.mode_network.specs.declared.nodes.Arc.{Arc}
-use Rattle.mode_network.specs.NetworkLists.{NetworkLists, mode_at}
-use Rattle.mode_network.specs.Journeys.{Leads}
-use Rattle.hierarchy.specs.declared.entry.Entry.{Entry}
-use Rattle.hierarchy.specs.Hops.{Hop, AreHops, AreHigh, total, nodes_along}
-use Rattle.hierarchy.specs.Lists.{HierarchyLists, height_in, IsAbove}
+use Rattle.search_laws.specs.{HoldsBelow}
+use Rattle.plan_base.specs.{Mode}
+use Rattle.mode_network.specs.{Arc, mode_at, Leads, NetworkLists.NetworkLists}
+use Rattle.hierarchy.specs.{declared.entry.Entry.Entry, Hops.Hop, Hops.AreHops, Hops.AreHigh, Hops.total, Hops.nodes_along, Lists.HierarchyLists, Lists.height_in, Lists.IsAbove}
 
 -- an entry leads from u to v and weighs so much
 abbrev pub HasEntry : List Entry → ℕ → ℕ → ℕ → Type 0

@@ -4,7 +4,8 @@ ghost use Rattle.std.specs.Prelude.{◌≡◌, IfOk, MatchOption};
 ghost use Rattle.hierarchy.specs.Lists.{height_in, is_above, is_contracted};
 ghost use Rattle.hierarchy.specs.Rules.{IsHierarchy};
 ghost use Rattle.hierarchy.specs.Rises.{IsRiseRange, RisesFrom, all_rises, has_legs, legs_from, rise_from, rise_places_from};
-ghost use Rattle.hierarchy.specs.Lookups.{IsEntryFor, HasNoEntry, IsWitnessFor, HasNoWitness, AreFrom, ArePlaces, falls_into, range_of, from_of};
+ghost use Rattle.mode_network.specs.Indexes.{range_of};
+ghost use Rattle.hierarchy.specs.Lookups.{IsEntryFor, HasNoEntry, IsWitnessFor, HasNoWitness, AreFrom, ArePlaces, falls_into, from_of};
 
 use crate::entry::Entry;
 use crate::falls::Fall;

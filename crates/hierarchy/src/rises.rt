@@ -2,7 +2,8 @@
 
 ghost use Rattle.std.specs.Prelude.{◌≡◌, ◌<◌, ◌≤◌, ◌^◌, All, IfOk, length};
 ghost use Rattle.std.specs.List.Sorted.{IsNonDecreasingBy};
-ghost use Rattle.hierarchy.specs.Lookups.{count_below, from_of, places_before, places_of};
+ghost use Rattle.mode_network.specs.Indexes.{count_below};
+ghost use Rattle.hierarchy.specs.Lookups.{from_of, places_before, places_of};
 ghost use Rattle.hierarchy.specs.Rules.{FitsEntry};
 ghost use Rattle.hierarchy.specs.Indexes.{AreEndsBelow, AreRows, TellHeights};
 ghost use Rattle.hierarchy.specs.Rises.{is_rise, legs_of_rises, rises_at};

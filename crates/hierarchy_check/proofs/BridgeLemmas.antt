@@ -1,19 +1,9 @@
 -- The entries that are visited are those that matter.
-use Rattle.std.proofs.Common.{◌≡◌, ℕ, ◌+◌, ◌<◌, below_more, ◌≤◌, ◌⊎◌, inl, inr, ◌||◌, ◌&&◌, true, false, List, length, get_or, Some, None, is_some, refl, ◌∙◌, ap, subst, sym, arith}
-use Rattle.std.specs.Prelude.{All, Option, MatchOption}
-use Rattle.std.specs.List.{HoldsAt}
-use Rattle.std.proofs.lemmas.Bool.{false≢true, cases_lt, cases_eq, lt-ltb}
-use Rattle.std.proofs.lemmas.List.{get_or_default}
-use Rattle.std.proofs.lemmas.Option.{slice_get-get_or}
-use Rattle.search_laws.specs.Firsts.{HoldsBelow}
-use Rattle.hierarchy.specs.declared.entry.Entry.{Entry}
-use Rattle.hierarchy.specs.Lists.{HierarchyLists, height_in}
-use Rattle.hierarchy.specs.Lookups.{ArePlaces, AreFrom, FallsTo, entry_at, no_entry}
-use Rattle.hierarchy.specs.Rises.{RisesFrom, is_rise, is_core}
-use Rattle.hierarchy.specs.Soundness.{ArePairAt, PairIsBridged, PairsAreBridged, NodeIsBridged}
-use Rattle.hierarchy.specs.FirstBroken.{FailsFirst}
+use Rattle.plan_base.proofs.Common.{◌≡◌, ℕ, ◌+◌, ◌<◌, below_more, ◌≤◌, ◌⊎◌, inl, inr, ◌||◌, ◌&&◌, true, false, List, length, get_or, Some, None, is_some, refl, ◌∙◌, ap, subst, sym, arith, All, Option, MatchOption, HoldsAt, false≢true, cases_lt, cases_eq, lt-ltb, get_or_default, slice_get-get_or}
+use Rattle.search_laws.specs.{HoldsBelow}
+use Rattle.hierarchy.specs.{Entry, HierarchyLists, height_in, ArePlaces, AreFrom, FallsTo, entry_at, no_entry, RisesFrom, is_rise, is_core, ArePairAt, PairIsBridged, PairsAreBridged, NodeIsBridged, FailsFirst}
 use Rattle.hierarchy.proofs.HeightLemmas.{height_is, height_least}
-use Rattle.hierarchy_check.specs.inside.Light.{FirstUnbridgedAt, RiseIsBridged}
+use Rattle.hierarchy_check.specs.inside.{FirstUnbridgedAt, RiseIsBridged}
 
 -- ---- entries from the node
 

@@ -1,18 +1,10 @@
 -- What the entry that was found between two nodes decides.
-use Rattle.std.proofs.Common.{◌≡◌, ℕ, ◌+◌, ◌-◌, ◌<◌, ◌≤◌, true, false, nat_eq, nat_le, List, ◌∷◌, Some, sym, ◌∙◌, ap, subst, arith}
-use Rattle.std.specs.Prelude.{◌↔◌, Contains, Option, None, IfSome, IfNone, MatchOption}
-use Rattle.std.proofs.lemmas.Bool.{false≢true, leb-true, le-leb, ltb-true, eqb-true, eq-eqb}
-use Rattle.mode_network.specs.declared.nodes.Arc.{Arc}
-use Rattle.mode_network.specs.Rules.{IsAscending, arc_cmp}
-use Rattle.mode_network.specs.Journeys.{Leads}
+use Rattle.plan_base.proofs.Common.{◌≡◌, ℕ, ◌+◌, ◌-◌, ◌<◌, ◌≤◌, true, false, nat_eq, nat_le, List, ◌∷◌, Some, sym, ◌∙◌, ap, subst, arith, ◌↔◌, Contains, Option, None, IfSome, IfNone, MatchOption, false≢true, leb-true, le-leb, ltb-true, eqb-true, eq-eqb}
+use Rattle.mode_network.specs.{Arc, IsAscending, arc_cmp, Leads}
 use Rattle.mode_network.proofs.FindLemmas.{leads_once}
-use Rattle.hierarchy.specs.declared.entry.Entry.{Entry}
-use Rattle.hierarchy.specs.Lists.{HierarchyLists, is_above}
-use Rattle.hierarchy.specs.Rules.{entry_cmp}
-use Rattle.hierarchy.specs.Soundness.{HasEntry, HasLighter}
-use Rattle.hierarchy.specs.Lookups.{IsEntryFor, HasNoEntry}
+use Rattle.hierarchy.specs.{Entry, HierarchyLists, is_above, entry_cmp, HasEntry, HasLighter, IsEntryFor, HasNoEntry}
 use Rattle.hierarchy.proofs.LookupLemmas.{weight_once}
-use Rattle.hierarchy_check.specs.inside.Light.{IsSumOver, CanStep, CanWalk}
+use Rattle.hierarchy_check.specs.inside.{IsSumOver, CanStep, CanWalk}
 
 -- the entry that was found
 pub entry_is : (entries : List Entry) (u v : ℕ) (e : Entry) → IsEntryFor entries u v e → HasEntry entries u v e.weight

@@ -1,19 +1,13 @@
 -- Which node may stand at a place of the order, by those that were met before.
-use Rattle.std.proofs.Common.{◌≡◌, ℕ, ◌+◌, ◌<◌, ◌==◌, ◌||◌, Bool, true, false, not, nat_eq, List, ◌++◌, length, get_or, set, Some, inl, inr, refl, sym, ◌∙◌, subst, arith}
-use Rattle.std.specs.Prelude.{All, IsTrue, ◌↔◌, slice_get}
-use Rattle.std.proofs.lemmas.Bool.{false≢true, both_ways, not-true, not_from_false, eqb-true, eqb-false, eq-eqb, ne_eqb, or_from, or_left, or_right, cases_lt, cases_Bool}
-use Rattle.std.proofs.lemmas.Option.{option_and_then_some, slice_get_within}
-use Rattle.std.proofs.lemmas.List.{length-append, get_or-set_same, get_or-set_other, length-set}
-use Rattle.std.proofs.lemmas.List.Folds.{list_any_none, list_any_at}
-use Rattle.plan_base.specs.declared.modes.Mode.{Mode}
-use Rattle.mode_network.specs.declared.nodes.Arc.{Arc}
-use Rattle.mode_network.specs.declared.nodes.Node.{Node}
-use Rattle.mode_network.specs.NetworkLists.{NetworkLists, mode_at, mode_of, nodes_of}
-use Rattle.mode_network.specs.Indexes.{is_end_of}
-use Rattle.search_laws.specs.Firsts.{HoldsBelow, FailsFirstAt}
+use Rattle.plan_base.proofs.Common.{◌≡◌, ℕ, ◌+◌, ◌<◌, ◌==◌, ◌||◌, Bool, true, false, not, nat_eq, List, ◌++◌, length, get_or, set, Some, inl, inr, refl, sym, ◌∙◌, subst, arith, All, IsTrue, ◌↔◌, slice_get, false≢true, not-true, not_from_false, eqb-true, eqb-false, eq-eqb, ne_eqb, cases_lt, cases_Bool, option_and_then_some, slice_get_within, length-append, get_or-set_same, get_or-set_other, length-set, list_any_at}
+use Rattle.std.proofs.lemmas.Bool.{both_ways, or_from, or_left, or_right}
+use Rattle.std.proofs.lemmas.List.Folds.{list_any_none}
+use Rattle.plan_base.specs.{Mode}
+use Rattle.mode_network.specs.{Arc, Node, mode_at, mode_of, nodes_of, is_end_of, NetworkLists.NetworkLists}
+use Rattle.search_laws.specs.{HoldsBelow, FailsFirstAt}
 use Rattle.search_laws.proofs.FirstLemmas.{fails_here}
-use Rattle.hierarchy.specs.Soundness.{IsFree, MayStandAt}
-use Rattle.hierarchy_check.specs.inside.Meetings.{AreMet, IsFirstMeeting}
+use Rattle.hierarchy.specs.{IsFree, MayStandAt}
+use Rattle.hierarchy_check.specs.inside.{AreMet, IsFirstMeeting}
 
 -- ---- links
 

@@ -1,11 +1,7 @@
 -- What holds at each place of a list, and where it fails first.
-use Rattle.std.proofs.Common.{◌≡◌, ℕ, ◌<◌, ◌≤◌, Bool, true, false, List, length, get_or, sym, ◌∙◌, subst, arith}
-use Rattle.std.specs.Prelude.{All, IsTrue, ◌↔◌}
-use Rattle.std.specs.List.{HoldsAt}
-use Rattle.std.proofs.lemmas.Bool.{false≢true}
-use Rattle.std.proofs.lemmas.List.{get_or_default}
-use Rattle.search_laws.specs.Firsts.{HoldsBelow}
-use Rattle.hierarchy.specs.FirstBroken.{FailsFirst}
+use Rattle.plan_base.proofs.Common.{◌≡◌, ℕ, ◌<◌, ◌≤◌, Bool, true, false, List, length, get_or, sym, ◌∙◌, subst, arith, All, IsTrue, ◌↔◌, HoldsAt, false≢true, get_or_default}
+use Rattle.search_laws.specs.{HoldsBelow}
+use Rattle.hierarchy.specs.{FailsFirst}
 
 -- a test of the element at a place decides what holds there
 pub holds_at : {X : Type 0} (P : X → Type 0) (xs : List X) (k : ℕ) (e : X) (b : Bool) → k < length xs → (IsTrue b ↔ P (get_or xs k e)) → b ≡ true → HoldsAt P xs k

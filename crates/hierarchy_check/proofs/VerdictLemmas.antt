@@ -1,12 +1,7 @@
 -- A sound hierarchy has no clause that fails.
-use Rattle.std.proofs.Common.{◌≡◌, ℕ, inl, inr, refl}
-use Rattle.std.specs.Prelude.{Result, Ok, Err, IfOk}
+use Rattle.plan_base.proofs.Common.{◌≡◌, ℕ, inl, inr, refl, Result, Ok, Err, IfOk}
 use Rattle.mode_network.specs.NetworkLists.{NetworkLists}
-use Rattle.hierarchy.specs.declared.verdict.Verdict.{Verdict}
-use Rattle.hierarchy.specs.declared.verdict.Verdict.TheVariants.{Sound, Broken}
-use Rattle.hierarchy.specs.Lists.{HierarchyLists}
-use Rattle.hierarchy.specs.Soundness.{IsSound}
-use Rattle.hierarchy.specs.FirstBroken.{IsFirstBroken, IsSoundnessVerdict}
+use Rattle.hierarchy.specs.{Verdict, Sound, Broken, HierarchyLists, IsSound, IsFirstBroken, IsSoundnessVerdict}
 
 not_both : (n : NetworkLists) (h : HierarchyLists) (clause at by : ℕ) → IsSound n h → IsFirstBroken n h clause at by → ⊥
 not_both n h clause at by sound (inl (is, none, fails)) = fails.fails (sound.in_order at fails.place)

@@ -1,16 +1,8 @@
 -- A listed walk that can be walked is a witness, and conversely.
-use Rattle.std.proofs.Common.{◌≡◌, ℕ, suc, ◌-◌, ◌≤◌, true, false, List, [], ◌∷◌, length, map, get_or, sym, ◌∙◌, ap, subst, arith, refl, Less, Equal, inl, inr}
-use Rattle.std.specs.Prelude.{◌↔◌, Contains}
-use Rattle.std.proofs.lemmas.Bool.{cases_order, false≢true}
-use Rattle.std.proofs.lemmas.Cmp.{tied_itself, nat_cmp_total}
-use Rattle.std.proofs.lemmas.List.{get_or_default}
-use Rattle.hierarchy.specs.Hops.{Hop, AreHops, AreHigh, total, nodes_along}
-use Rattle.hierarchy.specs.Lists.{HierarchyLists, WitnessLists, height_in, first_of, last_of}
-use Rattle.mode_network.specs.Rules.{IsAscending}
-use Rattle.hierarchy.specs.Rules.{witness_cmp}
-use Rattle.hierarchy.specs.Soundness.{HasEntry, HasWitness}
-use Rattle.hierarchy.specs.Lookups.{IsWitnessFor, HasNoWitness}
-use Rattle.hierarchy_check.specs.inside.Light.{CanWalk}
+use Rattle.plan_base.proofs.Common.{◌≡◌, ℕ, suc, ◌-◌, ◌≤◌, true, false, List, [], ◌∷◌, length, map, get_or, sym, ◌∙◌, ap, subst, arith, refl, inl, inr, ◌↔◌, Contains, cases_order, false≢true, tied_itself, nat_cmp_total, get_or_default, Less, Equal}
+use Rattle.hierarchy.specs.{Hop, AreHops, AreHigh, total, nodes_along, HierarchyLists, WitnessLists, height_in, first_of, last_of, witness_cmp, HasEntry, HasWitness, IsWitnessFor, HasNoWitness}
+use Rattle.mode_network.specs.{IsAscending}
+use Rattle.hierarchy_check.specs.inside.{CanWalk}
 
 -- the last node of a walk that goes on
 last_on : (u v : ℕ) (nodes : List ℕ) → last_of (u ∷ v ∷ nodes) ≡ last_of (v ∷ nodes)

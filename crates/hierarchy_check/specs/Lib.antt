@@ -1,2 +1,3 @@
 pub mod Nodes
 pub mod inside
+pub use Nodes.{HasNodes}

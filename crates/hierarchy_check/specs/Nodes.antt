@@ -1,11 +1,7 @@
 -- The verdict by the clauses on nodes alone, 1 and 5.
 use Rattle.std.specs.Prelude.{All}
 use Rattle.mode_network.specs.NetworkLists.{NetworkLists}
-use Rattle.hierarchy.specs.declared.verdict.Verdict.{Verdict}
-use Rattle.hierarchy.specs.declared.verdict.Verdict.TheVariants.{Sound, Broken}
-use Rattle.hierarchy.specs.Lists.{HierarchyLists}
-use Rattle.hierarchy.specs.Soundness.{FitsLayer}
-use Rattle.hierarchy.specs.FirstBroken.{OrderHolds, IsFirstBroken}
+use Rattle.hierarchy.specs.{Verdict, Sound, Broken, HierarchyLists, FitsLayer, OrderHolds, IsFirstBroken}
 
 -- the order and the entries keep the clauses 1 and 5, so that they name nodes of the network alone
 abbrev pub HasNodes : NetworkLists → HierarchyLists → Type 0

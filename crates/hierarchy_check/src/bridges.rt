@@ -1,6 +1,6 @@
 //! Clause 4: whatever two entries lead by way of a contracted node, another way is no heavier.
 
-ghost use Rattle.std.specs.Prelude.{◌≡◌, ◌<◌, ◌^◌, ◌↔◌, All, IsTrue, MatchOption, length};
+ghost use Rattle.std.specs.Prelude.{◌<◌, ◌^◌, ◌↔◌, All, IsTrue, MatchOption, length};
 ghost use Rattle.std.specs.List.{HoldsAt};
 ghost use Rattle.search_laws.specs.Firsts.{HoldsBelow};
 ghost use Rattle.hierarchy.specs.Soundness.{IsBridged, ArePairAt, PairIsBridged, PairsAreBridged, NodeIsBridged};

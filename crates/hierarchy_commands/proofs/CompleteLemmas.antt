@@ -1,19 +1,12 @@
 -- A run whose files are there and without fault ends with its work done: each other outcome has a cause that is not there.
-use Rattle.std.proofs.Common.{ℕ, ◌⊎◌, inl, inr, List, Option, Some, None, subst}
-use Rattle.std.specs.Prelude.{IfSome}
+use Rattle.plan_base.proofs.Common.{ℕ, ◌⊎◌, inl, inr, List, Option, Some, None, subst, IfSome}
 use Rattle.mode_network.specs.NetworkLists.{NetworkLists}
-use Rattle.hierarchy.specs.Lists.{HierarchyLists}
-use Rattle.hierarchy.specs.Rules.{IsHierarchy}
-use Rattle.hierarchy.specs.Soundness.{IsSound}
-use Rattle.hierarchy.specs.declared.verdict.Verdict.TheVariants.{Broken}
+use Rattle.hierarchy.specs.{HierarchyLists, IsHierarchy, IsSound, Broken}
 use Rattle.hierarchy_check.proofs.VerdictLemmas.{sound_verdict}
 use Rattle.hierarchy_file.proofs.CauseLaws.{no_hierarchy, spell_one}
-use Rattle.run_steps.specs.declared.outcome.FileRole.TheVariants.{Hierarchy}
-use Rattle.run_steps.specs.Sayings.{Saying}
-use Rattle.run_steps.specs.Complete.{Files, IsDoneOrMemory, Completes}
+use Rattle.run_steps.specs.{Hierarchy, Saying, Files, IsDoneOrMemory, Completes}
 use Rattle.run_steps.proofs.CompleteSteps.{file_completes, network_completes, writes_completes}
-use Rattle.hierarchy_commands.specs.Commands.{IsUnsound, OnSound, OnHierarchyIfNamed}
-use Rattle.hierarchy_commands.specs.Complete.{SpellsSound, IsSoundIfNamed, CheckCompletes, ContractCompletes}
+use Rattle.hierarchy_commands.specs.{IsUnsound, OnSound, OnHierarchyIfNamed, SpellsSound, IsSoundIfNamed, CheckCompletes, ContractCompletes}
 
 module _ (files : Files) where
   -- a hierarchy that is sound is read and checked

@@ -1,18 +1,11 @@
 -- What the steps of a run answer, put together to what the run says.
-use Rattle.std.proofs.Common.{ℕ, inl, inr, List, Option, Some, None, refl, subst}
-use Rattle.std.specs.Prelude.{IfSome}
-use Rattle.plan_base.specs.Shelves.{ShelfMeaning}
-use Rattle.plan_base.specs.Sinks.{SinkMeaning, Stays}
+use Rattle.plan_base.proofs.Common.{ℕ, inl, inr, List, Option, Some, None, refl, subst, IfSome}
+use Rattle.plan_base.specs.{ShelfMeaning, SinkMeaning, Stays}
 use Rattle.mode_network.specs.NetworkLists.{NetworkLists}
-use Rattle.hierarchy.specs.Lists.{HierarchyLists}
-use Rattle.hierarchy.specs.Soundness.{IsSound}
+use Rattle.hierarchy.specs.{HierarchyLists, IsSound}
 use Rattle.hierarchy_file.specs.declared.fault.HFileFault.TheVariants as no
-use Rattle.run_steps.specs.declared.outcome.Outcome.{Outcome}
-use Rattle.run_steps.specs.declared.outcome.Outcome.TheVariants.{Done, Usage, Missing, ReadFault, TooLong, WriteFault, BadRegion, BadFeed, Invalid, BadCertificate, BadHierarchy, Unsound, OutOfMemory}
-use Rattle.run_steps.specs.Scene.{scene}
-use Rattle.run_steps.specs.Sayings.{Saying}
-use Rattle.hierarchy_commands.specs.Commands.{OnSound, OnHierarchy, OnHierarchyIfNamed}
-use Rattle.hierarchy_commands.specs.Working.{AreUnsound, HasSound, HasUnsound, IsHierarchyOutcome, IsFoundSound, IsNamedOutcome}
+use Rattle.run_steps.specs.{Outcome, Done, Usage, Missing, ReadFault, TooLong, WriteFault, BadRegion, BadFeed, Invalid, BadCertificate, BadHierarchy, Unsound, OutOfMemory, scene, Saying}
+use Rattle.hierarchy_commands.specs.{OnSound, OnHierarchy, OnHierarchyIfNamed, AreUnsound, HasSound, HasUnsound, IsHierarchyOutcome, IsFoundSound, IsNamedOutcome}
 
 module _ (old mid new : ShelfMeaning) (before after : SinkMeaning) (name : List ℕ) (n : NetworkLists) where
   -- the bytes of a hierarchy spell none that is sound

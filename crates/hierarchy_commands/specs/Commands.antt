@@ -1,18 +1,12 @@
 -- What a run says that reads a hierarchy, and what `check` and `contract` say of one by its outcome.
 use Rattle.std.specs.Prelude.{◌≡◌, ℕ, ◌⊎◌, List, Option, Some, None, codes}
-use Rattle.plan_base.specs.declared.limits.Caps.{Caps}
-use Rattle.plain_texts.specs.Lines.{with_feed}
+use Rattle.plan_base.specs.{Caps}
+use Rattle.plain_texts.specs.{with_feed}
 use Rattle.mode_network.specs.NetworkLists.{NetworkLists}
-use Rattle.hierarchy.specs.Lists.{HierarchyLists}
-use Rattle.hierarchy.specs.Soundness.{IsSound}
-use Rattle.hierarchy.specs.FirstBroken.{IsFirstBroken}
-use Rattle.hierarchy_file.specs.declared.fault.HFileFault.{HFileFault}
-use Rattle.hierarchy_file.specs.Causes.{IsNoHierarchy, SpellHierarchy}
-use Rattle.contractor.specs.Contracted.{IsContractedTo}
-use Rattle.run_steps.specs.declared.outcome.FileRole.TheVariants.{Hierarchy}
-use Rattle.run_steps.specs.declared.outcome.Outcome.TheVariants.{BadHierarchy, Unsound}
-use Rattle.run_steps.specs.Regions.{OnRegion}
-use Rattle.run_steps.specs.Sayings.{Saying, Ends, OnFile, WritesText}
+use Rattle.hierarchy.specs.{HierarchyLists, IsSound, IsFirstBroken}
+use Rattle.hierarchy_file.specs.{HFileFault, IsNoHierarchy, SpellHierarchy}
+use Rattle.contractor.specs.{IsContractedTo}
+use Rattle.run_steps.specs.{Hierarchy, BadHierarchy, Unsound, OnRegion, Saying, Ends, OnFile, WritesText}
 
 -- the hierarchy is not sound for the network: this is the first clause that fails, at its least place
 abbrev pub IsUnsound : NetworkLists → HierarchyLists → Saying

@@ -1,12 +1,11 @@
 -- What can be done: the files that a command names are there and without fault.
 use Rattle.std.specs.Prelude.{ℕ, List, Option, Some, None}
-use Rattle.plan_base.specs.declared.limits.Caps.{Caps}
+use Rattle.plan_base.specs.{Caps}
 use Rattle.mode_network.specs.NetworkLists.{NetworkLists}
-use Rattle.hierarchy.specs.Lists.{HierarchyLists}
-use Rattle.hierarchy.specs.Soundness.{IsSound}
-use Rattle.hierarchy_file.specs.Causes.{SpellHierarchy}
+use Rattle.hierarchy.specs.{HierarchyLists, IsSound}
+use Rattle.hierarchy_file.specs.{SpellHierarchy}
 use Rattle.run_steps.specs.declared.outcome.FileRole.TheVariants as role
-use Rattle.run_steps.specs.Complete.{Files, IsHeld, IsRegionHeld, Completes}
+use Rattle.run_steps.specs.{Files, IsHeld, IsRegionHeld, Completes}
 use Rattle.hierarchy_commands.specs.Commands.{SaysCheck, SaysContract}
 
 -- the bytes spell a hierarchy that is sound for the network and has P

@@ -1,17 +1,11 @@
 -- What reading a hierarchy answers: what its file and its bytes spell.
 use Rattle.std.specs.Prelude.{◌≡◌, ℕ, ◌⊎◌, List, Option, Some, None}
-use Rattle.plan_base.specs.Shelves.{ShelfMeaning, IsLater, HasRead}
+use Rattle.plan_base.specs.{ShelfMeaning, IsLater, HasRead}
 use Rattle.mode_network.specs.NetworkLists.{NetworkLists}
-use Rattle.hierarchy.specs.Lists.{HierarchyLists}
-use Rattle.hierarchy.specs.Soundness.{IsSound}
-use Rattle.hierarchy.specs.FirstBroken.{IsFirstBroken}
-use Rattle.hierarchy_file.specs.declared.fault.HFileFault.{HFileFault}
+use Rattle.hierarchy.specs.{HierarchyLists, IsSound, IsFirstBroken}
+use Rattle.hierarchy_file.specs.{HFileFault, IsNoHierarchy, SpellHierarchy}
 use Rattle.hierarchy_file.specs.declared.fault.HFileFault.TheVariants as no
-use Rattle.hierarchy_file.specs.Causes.{IsNoHierarchy, SpellHierarchy}
-use Rattle.run_steps.specs.declared.outcome.FileRole.TheVariants.{Hierarchy}
-use Rattle.run_steps.specs.declared.outcome.Outcome.{Outcome}
-use Rattle.run_steps.specs.declared.outcome.Outcome.TheVariants.{BadHierarchy, Unsound, OutOfMemory}
-use Rattle.run_steps.specs.Sayings.{IsUnread, most_of}
+use Rattle.run_steps.specs.{Hierarchy, Outcome, BadHierarchy, Unsound, OutOfMemory, IsUnread, most_of}
 
 -- the bytes spell a hierarchy that is sound for the network
 abbrev pub AreSound : NetworkLists → List ℕ → HierarchyLists → Type 0

@@ -2,7 +2,6 @@
 
 ghost use Rattle.std.specs.Prelude.{◌≡◌, IfErr, IfOk, option_map};
 ghost use Rattle.hierarchy_check.specs.Nodes.{HasNodes};
-ghost use Rattle.plan_base.specs.Shelves.{IsLater};
 ghost use Rattle.hierarchy_commands.specs.Working.{HasSound, AreSound, AreUnsound, IsSoundOf, IsUnsoundOf, IsHierarchyOutcome, IsFoundSound, IsNamedOutcome, hierarchy_outcome};
 
 use crate::broken::Judged;

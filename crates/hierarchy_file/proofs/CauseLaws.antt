@@ -1,21 +1,9 @@
 -- Each refusal has its cause.
-use Rattle.std.proofs.Common.{◌≡◌, ℕ, ◌-◌, Bool, true, false, cond, eqb, List, ◌++◌, length, inl, inr, Some, None, Result, Ok, Err, refl, sym, ap, subst, ◌∙◌, append_assoc, arith}
-use Rattle.std.specs.Prelude.{Option, IfErr}
-use Rattle.std.proofs.lemmas.Bool.{eqb-false}
-use Rattle.hierarchy.specs.declared.entry.Entry.{Entry}
-use Rattle.hierarchy.specs.Lists.{HierarchyLists, WitnessLists}
-use Rattle.hierarchy.specs.Rules.{IsNode}
-use Rattle.hierarchy_file.specs.declared.head.Counts.{Counts}
-use Rattle.hierarchy_file.specs.declared.fault.HFileFault.{HFileFault}
-use Rattle.hierarchy_file.specs.declared.fault.HFileFault.TheVariants.{BadHead, BadRecord, Trailing, OutOfMemory}
-use Rattle.hierarchy_file.specs.Spelling.{magic, counts_text, hierarchy_counts, node_in_bytes, entry_text, witness_text, records_text, hierarchy_text, FitsRow, FitsWalk, key_of_entry, key_of_witness}
-use Rattle.hierarchy_file.specs.Reading.{next_node, entry_front, witness_at, many_ascending, head_at, with_witnesses, with_entries, with_order, hierarchy_records, whole_hierarchy, of_head, hierarchy_of, GivesHierarchy}
-use Rattle.hierarchy_file.specs.Causes.{AreRows, StopsAt, AnyNext, itself, NextPair, NextThree, RecordsStop, HasHead, HasCause, IsNoHierarchy, IsRefusedHierarchy, SpellHierarchy, SpellNone}
-use Rattle.file_records.proofs.Steps.{err_is}
-use Rattle.file_records.proofs.NumberLaws.{IsBytes}
-use Rattle.hierarchy_file.proofs.ManyLaws.{many_takes, many_stops}
-use Rattle.hierarchy_file.proofs.RecordLaws.{next_node_takes, next_node_again, entry_takes, entry_again, witness_takes, witness_again}
-use Rattle.hierarchy_file.proofs.WholeLaws.{head_takes, head_again, hierarchy_again, records_take, spelling_from}
+use Rattle.plan_base.proofs.Common.{◌≡◌, ℕ, ◌-◌, Bool, true, false, cond, eqb, List, ◌++◌, length, inl, inr, Some, None, Result, Ok, Err, refl, sym, ap, subst, ◌∙◌, append_assoc, arith, Option, IfErr, eqb-false}
+use Rattle.hierarchy.specs.{Entry, HierarchyLists, WitnessLists, IsNode}
+use Rattle.hierarchy_file.specs.{Counts, HFileFault, BadHead, BadRecord, Trailing, OutOfMemory, magic, counts_text, hierarchy_counts, node_in_bytes, entry_text, witness_text, records_text, hierarchy_text, FitsRow, FitsWalk, key_of_entry, key_of_witness, next_node, entry_front, witness_at, many_ascending, head_at, with_witnesses, with_entries, with_order, hierarchy_records, whole_hierarchy, of_head, hierarchy_of, GivesHierarchy, AreRows, StopsAt, AnyNext, itself, NextPair, NextThree, RecordsStop, HasHead, HasCause, IsNoHierarchy, IsRefusedHierarchy, SpellHierarchy, SpellNone}
+use Rattle.file_records.proofs.{Steps.err_is, NumberLaws.IsBytes}
+use Rattle.hierarchy_file.proofs.{ManyLaws.many_takes, ManyLaws.many_stops, RecordLaws.next_node_takes, RecordLaws.next_node_again, RecordLaws.entry_takes, RecordLaws.entry_again, RecordLaws.witness_takes, RecordLaws.witness_again, WholeLaws.head_takes, WholeLaws.head_again, WholeLaws.hierarchy_again, WholeLaws.records_take, WholeLaws.spelling_from}
 
 abbrev Read : Type 0
 Read = HierarchyLists × List ℕ

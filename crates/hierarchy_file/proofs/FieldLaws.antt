@@ -1,14 +1,8 @@
 -- A node that is read is the one that was written, and what was written is read again; so is the middle node of an entry.
-use Rattle.std.proofs.Common.{◌≡◌, ℕ, ◌^◌, ◌<◌, Bool, true, false, cond, ltb, eqb, List, ◌++◌, Some, None, refl, ap, subst, arith}
-use Rattle.std.specs.Prelude.{Option, IfSome}
-use Rattle.std.specs.Int.{w32}
-use Rattle.std.proofs.lemmas.Bool.{ltb-true, lt-ltb, eqb-true, ne_eqb}
-use Rattle.std.proofs.lemmas.Option.{none-some, same_Some, cond_some, option_and_then_some}
-use Rattle.file_records.specs.Numbers.{number_front}
-use Rattle.file_records.proofs.Steps.{and_then}
-use Rattle.file_records.proofs.NumberLaws.{IsBytes, Takes, wide32, number_takes, number_again}
-use Rattle.hierarchy_file.specs.Spelling.{node_in_bytes, middle_number}
-use Rattle.hierarchy_file.specs.Reading.{node_at, middle_of}
+use Rattle.plan_base.proofs.Common.{◌≡◌, ℕ, ◌^◌, ◌<◌, Bool, true, false, cond, ltb, eqb, List, ◌++◌, Some, None, refl, ap, subst, arith, Option, IfSome, w32, ltb-true, lt-ltb, eqb-true, ne_eqb, none-some, same_Some, cond_some, option_and_then_some}
+use Rattle.file_records.specs.{number_front}
+use Rattle.file_records.proofs.{Steps.and_then, NumberLaws.IsBytes, NumberLaws.Takes, NumberLaws.wide32, NumberLaws.number_takes, NumberLaws.number_again}
+use Rattle.hierarchy_file.specs.{node_in_bytes, middle_number, node_at, middle_of}
 
 pub node_takes : (bytes : List ℕ) (x : ℕ × List ℕ) → IsBytes bytes → node_at bytes ≡ Some x → Takes bytes (node_in_bytes x.0) x.1 × (x.0 < 2 ^ 24)
 unfolding node_at

@@ -1,8 +1,7 @@
 -- Reading records one after the other, as a loop does.
-use Rattle.std.proofs.Common.{◌≡◌, ℕ, zero, suc, ◌-◌, ◌+◌, ◌≤◌, ◌<◌, List, [], ◌∷◌, ◌++◌, length, Some, None, Result, Ok, Err, refl, sym, ap, ◌∙◌, append-nil, arith}
-use Rattle.std.specs.Prelude.{Option}
+use Rattle.plan_base.proofs.Common.{◌≡◌, ℕ, zero, suc, ◌-◌, ◌+◌, ◌≤◌, ◌<◌, List, [], ◌∷◌, ◌++◌, length, Some, None, Result, Ok, Err, refl, sym, ap, ◌∙◌, append-nil, arith, Option}
 use Rattle.file_records.proofs.RowLaws.{regroup, with_front}
-use Rattle.hierarchy_file.specs.Reading.{many_ascending, next_node}
+use Rattle.hierarchy_file.specs.{many_ascending, next_node}
 
 module _ {X K : Type 0} (read : Option K → List ℕ → Option (X × List ℕ)) (key : X → K) where
   pub goes_on : (front : List X) (count i : ℕ) (before : Option K) (bytes : List ℕ) (x : X) (after : List ℕ) (total : Result (List X × List ℕ) ℕ) → i < count

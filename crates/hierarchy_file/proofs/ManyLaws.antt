@@ -1,18 +1,8 @@
 -- The two laws of records in a row, for every kind of record that has them by itself; and rows in order.
-use Rattle.std.proofs.Common.{◌≡◌, ℕ, zero, suc, true, List, [], ◌∷◌, ◌++◌, length, Some, None, Result, Ok, Err, refl, sym, ap, subst, ◌∙◌, append_assoc, arith, Ordering, Less, Equal, Greater}
-use Rattle.std.specs.Prelude.{Option, All, AllPairs}
-use Rattle.std.specs.List.{flat_map, AllByRecursion}
-use Rattle.std.specs.Cmp.{IsTotalOrder}
-use Rattle.std.specs.Ordering.{is_lt}
-use Rattle.std.proofs.lemmas.List.Concat.{flat_map-cons}
-use Rattle.std.proofs.lemmas.List.Elements.{All-cons, All-nil, All-head, All-weaker}
-use Rattle.std.proofs.lemmas.Option.{none-some}
-use Rattle.file_records.specs.Reading.{with_first}
-use Rattle.file_records.proofs.Steps.{err_is}
-use Rattle.file_records.proofs.NumberLaws.{IsBytes, Takes, Takes-then}
-use Rattle.file_records.proofs.RowLaws.{first_ok, first_err}
-use Rattle.hierarchy_file.specs.Reading.{many_ascending, record_then, is_after}
-use Rattle.hierarchy_file.specs.Causes.{Follow, StopsAt}
+use Rattle.plan_base.proofs.Common.{◌≡◌, ℕ, zero, suc, true, List, [], ◌∷◌, ◌++◌, length, Some, None, Result, Ok, Err, refl, sym, ap, subst, ◌∙◌, append_assoc, arith, Option, All, AllPairs, flat_map, AllByRecursion, IsTotalOrder, is_lt, flat_map-cons, All-cons, All-nil, All-head, All-weaker, none-some, Ordering, Less, Equal, Greater}
+use Rattle.file_records.specs.{with_first}
+use Rattle.file_records.proofs.{Steps.err_is, NumberLaws.IsBytes, NumberLaws.Takes, NumberLaws.Takes-then, RowLaws.first_ok, RowLaws.first_err}
+use Rattle.hierarchy_file.specs.{many_ascending, record_then, is_after, Follow, StopsAt}
 
 -- a record, where the reading went on behind it
 behind_ok : {X : Type 0} (others : X → List ℕ → Result (List X × List ℕ) ℕ) (left : ℕ) (o : Option (X × List ℕ)) (y : List X × List ℕ) → record_then others left o ≡ Ok y

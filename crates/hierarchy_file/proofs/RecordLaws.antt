@@ -1,22 +1,10 @@
 -- The two laws of each record: what is read is spelled so, and what is spelled so is read.
-use Rattle.std.proofs.Common.{◌≡◌, ℕ, ◌^◌, ◌<◌, ◌&&◌, cond, ltb, List, [], ◌∷◌, ◌++◌, length, Some, None, Result, Ok, Err, sym, ap, subst, ◌∙◌, append_assoc, arith}
-use Rattle.std.specs.Prelude.{Option, All}
-use Rattle.std.specs.List.{flat_map}
-use Rattle.std.specs.Int.{w32, w64, to_be_bytes}
-use Rattle.std.proofs.lemmas.Bool.{ltb-true, lt-ltb, and_parts, and_from}
-use Rattle.std.proofs.lemmas.List.Elements.{All-from_recursion, recursion_from_All}
-use Rattle.std.proofs.lemmas.Option.{none-some, same_Some, cond_some, option_and_then_some}
-use Rattle.hierarchy.specs.declared.entry.Entry.{Entry}
-use Rattle.hierarchy.specs.Lists.{WitnessLists}
-use Rattle.hierarchy.specs.Rules.{IsNode}
-use Rattle.hierarchy_file.specs.Causes.{Follow, AnyNext, itself, NextPair, NextThree}
-use Rattle.hierarchy_file.specs.Spelling.{FitsRow, FitsWalk, node_in_bytes, entry_text, witness_text, middle_number, key_of_entry, key_of_witness, pair_cmp, three_cmp}
-use Rattle.file_records.specs.Numbers.{number_front}
-use Rattle.file_records.proofs.Steps.{and_then}
-use Rattle.file_records.proofs.NumberLaws.{IsBytes, Takes, Takes-then, wide32, wide64, number_takes, number_again}
-use Rattle.hierarchy_file.specs.Reading.{node_at, next_node, middle_of, entry_front, witness_at, many_ascending, all_read, is_after}
-use Rattle.hierarchy_file.proofs.FieldLaws.{node_takes, node_again, middle_takes, middle_again, middle_fits}
-use Rattle.hierarchy_file.proofs.ManyLaws.{many_takes, many_again}
+use Rattle.plan_base.proofs.Common.{◌≡◌, ℕ, ◌^◌, ◌<◌, ◌&&◌, cond, ltb, List, [], ◌∷◌, ◌++◌, length, Some, None, Result, Ok, Err, sym, ap, subst, ◌∙◌, append_assoc, arith, Option, All, flat_map, w32, w64, to_be_bytes, ltb-true, lt-ltb, and_parts, and_from, All-from_recursion, recursion_from_All, none-some, same_Some, cond_some, option_and_then_some}
+use Rattle.hierarchy.specs.{Entry, WitnessLists, IsNode}
+use Rattle.hierarchy_file.specs.{Follow, AnyNext, itself, NextPair, NextThree, FitsRow, FitsWalk, node_in_bytes, entry_text, witness_text, middle_number, key_of_entry, key_of_witness, pair_cmp, three_cmp, node_at, next_node, middle_of, entry_front, witness_at, many_ascending, all_read, is_after}
+use Rattle.file_records.specs.{number_front}
+use Rattle.file_records.proofs.{Steps.and_then, NumberLaws.IsBytes, NumberLaws.Takes, NumberLaws.Takes-then, NumberLaws.wide32, NumberLaws.wide64, NumberLaws.number_takes, NumberLaws.number_again}
+use Rattle.hierarchy_file.proofs.{FieldLaws.node_takes, FieldLaws.node_again, FieldLaws.middle_takes, FieldLaws.middle_again, FieldLaws.middle_fits, ManyLaws.many_takes, ManyLaws.many_again}
 
 -- ---- nodes
 

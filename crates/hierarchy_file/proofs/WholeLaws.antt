@@ -1,30 +1,11 @@
 -- The two laws of the whole: what is read keeps the rules and is spelled so, and what is spelled so is read.
-use Rattle.std.proofs.Common.{◌≡◌, ℕ, ◌-◌, ◌^◌, ◌<◌, Bool, true, false, cond, eqb, List, [], ◌++◌, length, take, drop, Some, None, Result, Ok, Err, refl, sym, ap, subst, ◌∙◌, append_assoc, append-nil}
-use Rattle.std.specs.Prelude.{Option, All, IfOk}
-use Rattle.std.specs.List.{flat_map}
-use Rattle.std.specs.Str.{bytes_eq}
-use Rattle.std.specs.Int.{w64, to_be_bytes}
-use Rattle.std.specs.Cmp.{IsTotalOrder}
-use Rattle.std.proofs.lemmas.Bool.{eqb-true}
-use Rattle.std.proofs.lemmas.Cmp.{then_total, on_total, nat_cmp_total}
-use Rattle.std.proofs.lemmas.List.{nil_from_length}
-use Rattle.std.proofs.lemmas.List.Elements.{All-from_recursion, recursion_from_All, All-weaker}
-use Rattle.std.proofs.lemmas.Option.{same_Some, cond_some, option_and_then_some}
-use Rattle.hierarchy.specs.declared.entry.Entry.{Entry}
-use Rattle.hierarchy.specs.Lists.{HierarchyLists, WitnessLists}
-use Rattle.mode_network.specs.Rules.{IsAscending}
-use Rattle.hierarchy.specs.Rules.{IsHierarchy, IsNode, FitsEntry, FitsWitness, entry_cmp, witness_cmp}
-use Rattle.hierarchy_file.specs.declared.head.Counts.{Counts}
-use Rattle.hierarchy_file.specs.declared.fault.HFileFault.{HFileFault}
-use Rattle.hierarchy_file.specs.declared.fault.HFileFault.TheVariants.{Trailing}
-use Rattle.hierarchy_file.specs.Spelling.{magic, counts_text, hierarchy_counts, node_in_bytes, entry_text, witness_text, records_text, hierarchy_text, HasSpelling, FitEightBytes, FitsRow, FitsWalk, key_of_entry, key_of_witness, pair_cmp, three_cmp}
-use Rattle.hierarchy_file.specs.Reading.{next_node, entry_front, witness_at, many_ascending, behind_magic, counts_at, head_at, with_witnesses, with_entries, with_order, hierarchy_records, whole_hierarchy, of_head, hierarchy_of, GivesHierarchy}
-use Rattle.file_records.specs.Numbers.{number_front}
-use Rattle.file_records.proofs.Steps.{and_then}
-use Rattle.file_records.proofs.NumberLaws.{IsBytes, Takes, Takes-then, begins_with, wide64, number_takes, number_again}
-use Rattle.hierarchy_file.proofs.ManyLaws.{many_takes, many_again, ascending_from, follow_from}
-use Rattle.hierarchy_file.specs.Causes.{itself, NextPair, NextThree}
-use Rattle.hierarchy_file.proofs.RecordLaws.{nodes_take, nodes_again, entry_takes, entry_again, witness_takes, witness_again}
+use Rattle.plan_base.proofs.Common.{◌≡◌, ℕ, ◌-◌, ◌^◌, ◌<◌, Bool, true, false, cond, eqb, List, [], ◌++◌, length, take, drop, Some, None, Result, Ok, Err, refl, sym, ap, subst, ◌∙◌, append_assoc, append-nil, Option, All, IfOk, flat_map, bytes_eq, w64, to_be_bytes, IsTotalOrder, eqb-true, then_total, on_total, nat_cmp_total, nil_from_length, All-from_recursion, recursion_from_All, All-weaker, same_Some, cond_some, option_and_then_some}
+use Rattle.hierarchy.specs.{Entry, HierarchyLists, WitnessLists, IsHierarchy, IsNode, FitsEntry, FitsWitness, entry_cmp, witness_cmp}
+use Rattle.mode_network.specs.{IsAscending}
+use Rattle.hierarchy_file.specs.{Counts, HFileFault, Trailing, magic, counts_text, hierarchy_counts, node_in_bytes, entry_text, witness_text, records_text, hierarchy_text, HasSpelling, FitEightBytes, FitsRow, FitsWalk, key_of_entry, key_of_witness, pair_cmp, three_cmp, next_node, entry_front, witness_at, many_ascending, behind_magic, counts_at, head_at, with_witnesses, with_entries, with_order, hierarchy_records, whole_hierarchy, of_head, hierarchy_of, GivesHierarchy, itself, NextPair, NextThree}
+use Rattle.file_records.specs.{number_front}
+use Rattle.file_records.proofs.{Steps.and_then, NumberLaws.IsBytes, NumberLaws.Takes, NumberLaws.Takes-then, NumberLaws.begins_with, NumberLaws.wide64, NumberLaws.number_takes, NumberLaws.number_again}
+use Rattle.hierarchy_file.proofs.{ManyLaws.many_takes, ManyLaws.many_again, ManyLaws.ascending_from, ManyLaws.follow_from, RecordLaws.nodes_take, RecordLaws.nodes_again, RecordLaws.entry_takes, RecordLaws.entry_again, RecordLaws.witness_takes, RecordLaws.witness_again}
 
 -- ---- the head
 

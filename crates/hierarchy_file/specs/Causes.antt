@@ -1,13 +1,8 @@
 -- Why bytes are refused, said without any reading.
-use Rattle.std.specs.Prelude.{◌≡◌, ℕ, ◌-◌, ◌<◌, ◌⊎◌, List, [], ◌∷◌, ◌++◌, length, true, Option, Some, None}
-use Rattle.std.specs.List.{flat_map, AllByRecursion}
-use Rattle.hierarchy.specs.Lists.{HierarchyLists}
-use Rattle.hierarchy.specs.Rules.{IsNode}
-use Rattle.hierarchy_file.specs.declared.fault.HFileFault.{HFileFault}
-use Rattle.hierarchy_file.specs.declared.fault.HFileFault.TheVariants.{BadHead, BadRecord, Trailing, OutOfMemory}
-use Rattle.hierarchy_file.specs.declared.head.Counts.{Counts}
-use Rattle.hierarchy_file.specs.Spelling.{magic, counts_text, node_in_bytes, entry_text, witness_text, hierarchy_text, HasSpelling, FitEightBytes, FitsRow, FitsWalk, key_of_entry, key_of_witness, pair_cmp, three_cmp}
-use Rattle.hierarchy_file.specs.Reading.{is_after}
+use Rattle.std.specs.Prelude.{◌≡◌, ℕ, ◌-◌, ◌<◌, ◌⊎◌, List, [], ◌∷◌, ◌++◌, length, true, Option, Some, None, flat_map}
+use Rattle.std.specs.List.{AllByRecursion}
+use Rattle.hierarchy.specs.{HierarchyLists, IsNode}
+use Rattle.hierarchy_file.specs.{declared.fault.HFileFault.HFileFault, declared.fault.HFileFault.TheVariants.BadHead, declared.fault.HFileFault.TheVariants.BadRecord, declared.fault.HFileFault.TheVariants.Trailing, declared.fault.HFileFault.TheVariants.OutOfMemory, declared.head.Counts.Counts, Spelling.magic, Spelling.counts_text, Spelling.node_in_bytes, Spelling.entry_text, Spelling.witness_text, Spelling.hierarchy_text, Spelling.HasSpelling, Spelling.FitEightBytes, Spelling.FitsRow, Spelling.FitsWalk, Spelling.key_of_entry, Spelling.key_of_witness, Spelling.pair_cmp, Spelling.three_cmp, Reading.is_after}
 
 -- each row may follow the key of the one before it
 abbrev pub Follow : {X K : Type 0} → (Option K → K → Type 0) → (X → K) → Option K → List X → Type 0

@@ -1,17 +1,12 @@
 -- Reading from left to right, up to the first record that may not stand where it does.
-use Rattle.std.specs.Prelude.{◌≡◌, ℕ, zero, suc, ◌-◌, ◌^◌, ◌==◌, ◌&&◌, nat_lt, Bool, true, List, [], length, take, drop, Option, Some, None, option_and_then, Result, Ok, Err, if◌then◌else◌}
-use Rattle.std.specs.Str.{bytes_eq}
+use Rattle.std.specs.Prelude.{◌≡◌, ℕ, zero, suc, ◌-◌, ◌^◌, ◌==◌, ◌&&◌, nat_lt, Bool, true, List, [], length, take, drop, Option, Some, None, option_and_then, Result, Ok, Err, if◌then◌else◌, bytes_eq}
 use Rattle.std.specs.Int.{w32, w64}
 use Rattle.std.specs.Ordering.{is_lt}
 use Rattle.std.specs.declared.cmp.Ordering.{Ordering}
-use Rattle.file_records.specs.Numbers.{number_front}
-use Rattle.file_records.specs.Reading.{with_first}
-use Rattle.hierarchy.specs.declared.entry.Entry.{Entry}
-use Rattle.hierarchy.specs.Lists.{HierarchyLists, WitnessLists}
-use Rattle.hierarchy_file.specs.declared.head.Counts.{Counts}
-use Rattle.hierarchy_file.specs.declared.fault.HFileFault.{HFileFault}
-use Rattle.hierarchy_file.specs.declared.fault.HFileFault.TheVariants.{BadHead, BadRecord, Trailing, OutOfMemory}
-use Rattle.hierarchy_file.specs.Spelling.{magic, pair_cmp, three_cmp, key_of_entry, key_of_witness}
+use Rattle.file_records.specs.{number_front, with_first}
+use Rattle.hierarchy.specs.{Entry, HierarchyLists, WitnessLists}
+use Rattle.hierarchy_file.specs.{declared.head.Counts.Counts, Spelling.magic, Spelling.pair_cmp, Spelling.three_cmp, Spelling.key_of_entry, Spelling.key_of_witness}
+pub use Rattle.hierarchy_file.specs.{declared.fault.HFileFault.HFileFault, declared.fault.HFileFault.TheVariants.BadHead, declared.fault.HFileFault.TheVariants.BadRecord, declared.fault.HFileFault.TheVariants.Trailing, declared.fault.HFileFault.TheVariants.OutOfMemory}
 
 infixl 10 ◌>>=◌
 abbrev pub ◌>>=◌ : {A B : Type 0} → Option A → (A → Option B) → Option B

@@ -1,13 +1,10 @@
 -- The one spelling of a hierarchy.
-use Rattle.std.specs.Prelude.{ℕ, ◌<◌, ◌^◌, List, ◌++◌, length, codes, All, Option, Some, None}
-use Rattle.std.specs.List.{flat_map}
+use Rattle.std.specs.Prelude.{ℕ, ◌<◌, ◌^◌, List, ◌++◌, length, codes, All, Option, Some, None, flat_map}
 use Rattle.std.specs.Int.{w32, w64, to_be_bytes}
 use Rattle.std.specs.Ordering.{ordering_then, nat_cmp}
 use Rattle.std.specs.declared.cmp.Ordering.{Ordering}
-use Rattle.hierarchy.specs.declared.entry.Entry.{Entry}
-use Rattle.hierarchy.specs.Lists.{HierarchyLists, WitnessLists, first_of, last_of}
-use Rattle.hierarchy.specs.Rules.{FitsEntry, FitsWitness, IsHierarchy}
-use Rattle.hierarchy_file.specs.declared.head.Counts.{Counts}
+use Rattle.hierarchy.specs.{Entry, HierarchyLists, WitnessLists, first_of, last_of, FitsEntry, FitsWitness, IsHierarchy}
+pub use Rattle.hierarchy_file.specs.declared.head.Counts.{Counts}
 
 abbrev pub magic : List ℕ
 magic = codes "MPHIER01"

@@ -1,6 +1,6 @@
 //! From bytes to a hierarchy.
 
-ghost use Rattle.std.specs.Prelude.{◌≡◌, Ok, IfOk, IfErr};
+ghost use Rattle.std.specs.Prelude.{Ok, IfOk, IfErr};
 ghost use Rattle.file_records.specs.Reading.{GivesRead};
 ghost use Rattle.hierarchy.specs.Lists.{HierarchyLists};
 ghost use Rattle.hierarchy_file.specs.Causes.{HasCause, IsRefusedHierarchy, SpellHierarchy};

@@ -1,38 +1,15 @@
 -- A block tells the nodes, times and letters of its journey.
-use Rattle.std.proofs.Common.{◌≡◌, ℕ, suc, ◌+◌, ◌*◌, ◌^◌, ◌<◌, ◌≤◌, ◌∙◌, ◌==◌, ◌≢◌, false, List, [], ◌∷◌, ◌++◌, length, Option, Some, refl, ap, sym, subst, arith, codes, append_assoc, ◌&&◌, nat_le, nat_lt, true}
-use Rattle.std.specs.Prelude.{All, option_to_list, slice_get, slice_index_or}
-use Rattle.std.specs.List.{list_all}
-use Rattle.std.proofs.lemmas.Bool.{leb-true}
-use Rattle.std.proofs.lemmas.Bool.Decides.{nat_tests}
-use Rattle.std.proofs.lemmas.List.{append_cancel_left, append_cancel_right}
-use Rattle.std.proofs.lemmas.List.Elements.{All-cons, All-append}
-use Rattle.std.proofs.lemmas.Option.{get_or_from_slice_get, slice_get_within}
-use Rattle.plain_texts.specs.Lines.{IsWord, with_feed}
-use Rattle.plain_texts.specs.Names.{is_name}
+use Rattle.plan_base.proofs.Common.{◌≡◌, ℕ, suc, ◌+◌, ◌*◌, ◌^◌, ◌<◌, ◌≤◌, ◌∙◌, ◌==◌, ◌≢◌, false, List, [], ◌∷◌, ◌++◌, length, Option, Some, refl, ap, sym, subst, arith, codes, append_assoc, ◌&&◌, nat_le, nat_lt, true, All, option_to_list, slice_get, slice_index_or, list_all, leb-true, nat_tests, append_cancel_left, All-cons, All-append, get_or_from_slice_get, slice_get_within}
+use Rattle.std.proofs.lemmas.List.{append_cancel_right}
+use Rattle.plain_texts.specs.{IsWord, with_feed, is_name, fixed_decimal}
 use Rattle.plain_texts.proofs.Spaced.{name_is_word}
-use Rattle.service_days.specs.Clock.{clock_text_of}
-use Rattle.service_days.specs.Days.{date_of}
-use Rattle.plain_texts.specs.FixedDecimal.{fixed_decimal}
-use Rattle.search_laws.specs.Times.{time_bound}
-use Rattle.search_laws.specs.Letters.{IsLetter}
-use Rattle.search_laws.specs.Collapse.{collapse}
-use Rattle.timetable_arcs.specs.Trips.{TripLists}
-use Rattle.timetable_arcs.specs.Patterns.{no_trip}
-use Rattle.timetable_arcs.specs.TripRules.{is_early}
+use Rattle.service_days.specs.{clock_text_of, date_of}
+use Rattle.search_laws.specs.{time_bound, IsLetter, collapse}
+use Rattle.timetable_arcs.specs.{TripLists, no_trip, is_early}
 use Rattle.timetable_arcs.proofs.TripLemmas.{both_true}
-use Rattle.mode_network.specs.declared.steps.Step.{Step}
-use Rattle.mode_network.specs.declared.steps.Step.TheVariants.{Wait, Road, Link, Stand, Ride}
-use Rattle.mode_network.specs.NetworkLists.{NetworkLists, nodes_of}
-use Rattle.mode_network.specs.Copies.{IsCopy}
-use Rattle.mode_network.specs.Journeys.{Route, IsStep, AreSteps, IsJourney}
-use Rattle.journey.specs.Rides.{KeepsRules}
-use Rattle.journey.specs.Ends.{HasTime}
-use Rattle.journey.specs.Texts.{AreTold, IsJourneyText, step_text, ride_text, place_text, node_text, word_text, letter_text, block_text}
-use Rattle.journey.specs.Alike.{EndOfStep, AreStepEnds, AreAlikeJourneys, FitsInCertificate, BlockFixesItsJourney, EachPrintedIsBest}
-use Rattle.journey.proofs.RideLemmas.{kept_trip}
-use Rattle.journey.proofs.StepLemmas.{step_once, step_in_range, step_in_time, on_time}
-use Rattle.journey.proofs.TextParts.{Lacks, cut_once, word_lacks, lacks_by_test, letter_is_word, letter_once, word_on_line, fixed_is_word, clock_on_line, clock_once, clock_before}
-use Rattle.journey.proofs.NodeTexts.{node_is_word, node_once}
+use Rattle.mode_network.specs.{Step, Wait, Link, Stand, Ride, nodes_of, IsCopy, Route, IsStep, AreSteps, IsJourney, declared.steps.Step.TheVariants.Road, NetworkLists.NetworkLists}
+use Rattle.journey.specs.{KeepsRules, HasTime, AreTold, IsJourneyText, step_text, ride_text, place_text, node_text, word_text, letter_text, block_text, EndOfStep, AreStepEnds, AreAlikeJourneys, FitsInCertificate, BlockFixesItsJourney, EachPrintedIsBest}
+use Rattle.journey.proofs.{RideLemmas.kept_trip, StepLemmas.step_once, StepLemmas.step_in_range, StepLemmas.step_in_time, StepLemmas.on_time, TextParts.Lacks, TextParts.cut_once, TextParts.word_lacks, TextParts.lacks_by_test, TextParts.letter_is_word, TextParts.letter_once, TextParts.word_on_line, TextParts.fixed_is_word, TextParts.clock_on_line, TextParts.clock_once, TextParts.clock_before, NodeTexts.node_is_word, NodeTexts.node_once}
 
 -- two texts that begin otherwise
 differ : (a b : ℕ) (x y : List ℕ) → (a == b) ≡ false → a ∷ x ≡ b ∷ y → ⊥

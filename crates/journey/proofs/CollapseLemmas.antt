@@ -1,10 +1,8 @@
 -- One letter more of a word that is collapsed.
-use Rattle.std.proofs.Common.{◌≡◌, ℕ, ◌-◌, ◌∙◌, cond, ◌&&◌, ◌==◌, nat_lt, suc, List, [], ◌∷◌, ◌++◌, length, Some, Bool, true, false, refl, ap, sym, arith}
-use Rattle.std.specs.Prelude.{slice_get}
-use Rattle.std.proofs.lemmas.Bool.{eqb-true}
+use Rattle.plan_base.proofs.Common.{◌≡◌, ℕ, ◌-◌, ◌∙◌, cond, ◌&&◌, ◌==◌, nat_lt, suc, List, [], ◌∷◌, ◌++◌, length, Some, Bool, true, false, refl, ap, sym, arith, slice_get, eqb-true}
 use Rattle.mode_network.proofs.RuleLemmas.{both}
-use Rattle.search_laws.specs.Collapse.{collapse}
-use Rattle.journey.specs.inside.Words.{appended}
+use Rattle.search_laws.specs.{collapse}
+use Rattle.journey.specs.inside.{appended}
 
 -- the last of a list
 abbrev last_of : ℕ → List ℕ → ℕ

@@ -1,20 +1,8 @@
 -- The copies of an endpoint are nodes, and stand in a row.
-use Rattle.std.proofs.Common.{◌≡◌, ℕ, ℤ, zero, suc, ◌∷◌, ◌+◌, ◌-◌, ◌<◌, ◌∙◌, List, [], ◌++◌, length, length-append, Option, Some, None, ◌⊎◌, inl, inr, refl, ap, sym, subst, arith}
-use Rattle.std.specs.Prelude.{All, AllPairs, Contains, slice_index_or, slice_get, option_map, ◌↔◌}
-use Rattle.std.specs.List.{range_with_len}
-use Rattle.std.proofs.Math.Nat.{lt_of_lt_of_le}
-use Rattle.std.proofs.lemmas.List.{get_or_default}
-use Rattle.std.proofs.lemmas.List.FromFn.{length-range_with_len, get_or-range_with_len}
-use Rattle.std.proofs.lemmas.Option.{slice_get_within}
-use Rattle.mode_network.specs.declared.nodes.Node.{Node}
-use Rattle.mode_network.specs.declared.nodes.NodeKey.TheVariants.{Road as RoadKey}
-use Rattle.mode_network.specs.declared.endpoints.Endpoint.{Endpoint}
-use Rattle.mode_network.specs.declared.endpoints.Endpoint.TheVariants.{Road, Stop, Near, NearIn}
-use Rattle.mode_network.specs.NetworkLists.{NetworkLists, nodes_of}
-use Rattle.mode_network.specs.Rules.{IsNetwork}
-use Rattle.mode_network.specs.Copies.{IsRoadCopy, IsCopy, AreExactly}
+use Rattle.plan_base.proofs.Common.{◌≡◌, ℕ, ℤ, zero, suc, ◌∷◌, ◌+◌, ◌-◌, ◌<◌, ◌∙◌, List, [], ◌++◌, length, length-append, Option, Some, None, ◌⊎◌, inl, inr, refl, ap, sym, subst, arith, All, AllPairs, Contains, slice_index_or, slice_get, option_map, ◌↔◌, range_with_len, lt_of_lt_of_le, get_or_default, length-range_with_len, get_or-range_with_len, slice_get_within}
+use Rattle.mode_network.specs.{Node, Road as RoadKey, Endpoint, Near, NearIn, nodes_of, IsNetwork, IsRoadCopy, IsCopy, AreExactly, declared.endpoints.Endpoint.TheVariants.Road, declared.endpoints.Endpoint.TheVariants.Stop, NetworkLists.NetworkLists}
 use Rattle.mode_network.proofs.RuleLemmas.{nodes_hold_roads}
-use Rattle.journey.specs.CopyLists.{AreTheCopies}
+use Rattle.journey.specs.{AreTheCopies}
 
 module _ (n : NetworkLists) (network : IsNetwork n) where
   road_in_range : (id : ℤ) (v : ℕ) → IsRoadCopy n.roads id v → v < length (nodes_of n)
@@ -53,9 +41,6 @@ in_a_row P range exact v = (from_list, to_list)
         let inside : k < range.1 - range.0 = omega arith in
         let back : range.0 + k ≡ v = omega arith in
         (k, omega (arith, length-range_with_len range.0 (range.1 - range.0)), get_or-range_with_len range.0 (range.1 - range.0) k v inside ∙ back)
-
-pub none_listed : (P : ℕ → Type 0) → AreExactly P None → (v : ℕ) → Contains [] v ↔ P v
-none_listed P none v = (λ (k, lt, is). absurd (omega arith), λ p. absurd (none v p))
 
 -- one number more
 pub range_more : (n a : ℕ) → range_with_len a (n + 1) ≡ range_with_len a n ++ (a + n) ∷ []

@@ -1,18 +1,7 @@
 -- An expression's text holds no line feed: a byte that is no letter, digit, space or sign makes a token that stands nowhere.
-use Rattle.std.proofs.Common.{◌≡◌, ◌≢◌, ℕ, ◌+◌, Bool, true, false, ◌==◌, Some, None, List, [], ◌∷◌, cond, map, refl, sym, ap, ◌∙◌, arith}
-use Rattle.std.specs.List.{AllByRecursion}
-use Rattle.std.proofs.lemmas.Bool.Decides.{nat_tests}
-use Rattle.std.proofs.lemmas.List.Elements.{All-nil, All-cons}
-use Rattle.std.proofs.lemmas.Option.{option_and_then_some, none-some}
-use Rattle.plain_texts.specs.Lines.{is_feed, IsLine}
-use Rattle.mode_expression.specs.declared.token.Token.{Token}
-use Rattle.mode_expression.specs.declared.token.Token.TheVariants.{Unknown}
-use Rattle.mode_expression.specs.declared.place.Place.{Place}
-use Rattle.mode_expression.specs.declared.place.Place.TheVariants.{NeedsAtom, AfterAtom, AfterItem, Least, AfterLeast, Most, AfterMost}
-use Rattle.mode_expression.specs.Form.{Form}
-use Rattle.mode_expression.specs.inside.Machine.{Reading, step_at, empty_reading}
-use Rattle.mode_expression.specs.Tokens.{joins, widened, lexemes, Lexeme, placed_token, token_of, tokens_of}
-use Rattle.mode_expression.specs.Reading.{token, Spells}
+use Rattle.plan_base.proofs.Common.{◌≡◌, ◌≢◌, ℕ, ◌+◌, Bool, true, false, ◌==◌, Some, None, List, [], ◌∷◌, cond, map, refl, sym, ap, ◌∙◌, arith, AllByRecursion, nat_tests, All-nil, All-cons, option_and_then_some, none-some}
+use Rattle.plain_texts.specs.{is_feed, IsLine}
+use Rattle.mode_expression.specs.{Token, Unknown, joins, widened, lexemes, Lexeme, placed_token, token_of, tokens_of, token, Spells, declared.place.Place.Place, declared.place.Place.TheVariants.NeedsAtom, declared.place.Place.TheVariants.AfterAtom, declared.place.Place.TheVariants.AfterItem, declared.place.Place.TheVariants.Least, declared.place.Place.TheVariants.AfterLeast, declared.place.Place.TheVariants.Most, declared.place.Place.TheVariants.AfterMost, Form.Form, inside.Reading, inside.step_at, inside.empty_reading}
 use Rattle.mode_expression.proofs.MachineLemmas.{accept, accept_sentence}
 
 -- the tokens of a sentence are known

@@ -1,12 +1,8 @@
 -- The places of a query line's expression are so many and no other number.
-use Rattle.std.proofs.Common.{◌≡◌, ◌≢◌, ◌∙◌, inl, inr, ℕ, ◌^◌, ◌<◌, ◌≤◌, min, List, Option, Some, None, Ok, Err, sym, ap, subst, arith}
-use Rattle.mode_expression.specs.Form.{IsUsable, places}
+use Rattle.plan_base.proofs.Common.{◌≡◌, ◌≢◌, ◌∙◌, inl, inr, ℕ, ◌^◌, ◌<◌, ◌≤◌, min, List, Option, Some, None, Ok, Err, sym, ap, subst, arith}
+use Rattle.mode_expression.specs.{IsUsable, places}
 use Rattle.mode_network.specs.NetworkLists.{NetworkLists}
-use Rattle.journey.specs.Best.{Asked, Asks}
-use Rattle.journey.specs.Large.{IsLarge, IsSmall}
-use Rattle.journey.specs.Queries.{IsRefusal, IsRefused}
-use Rattle.journey.specs.declared.fault.QueryFault.{QueryFault}
-use Rattle.journey.specs.declared.fault.QueryFault.TheVariants.{OutOfMemory}
+use Rattle.journey.specs.{Asked, Asks, IsLarge, IsSmall, IsRefusal, IsRefused, QueryFault, OutOfMemory}
 use Rattle.journey.proofs.ReadingLemmas.{reading_is_unique}
 
 -- a line that asks with as many places as another, which is small, is small

@@ -1,38 +1,14 @@
 -- A query line holds no line feed.
-use Rattle.std.proofs.Common.{◌≡◌, ℕ, ℤ, ◌+◌, ◌^◌, Bool, true, false, ◌&&◌, ◌==◌, Option, Some, None, Ok, List, [], ◌∷◌, length, get_or, take, drop, cond, refl, sym, ap, subst, arith}
-use Rattle.std.specs.Prelude.{All, bytes_eq, codes, position, option_map, nat_lt, nat_le, nat_eq, pos, neg_ℤ}
+use Rattle.plan_base.proofs.Common.{◌≡◌, ℕ, ℤ, ◌+◌, ◌^◌, Bool, true, false, ◌&&◌, ◌==◌, Option, Some, None, Ok, List, [], ◌∷◌, length, get_or, take, drop, cond, refl, sym, ap, subst, arith, All, bytes_eq, codes, position, option_map, nat_lt, nat_le, nat_eq, pos, neg_ℤ, list_all, and_parts, nat_tests, take-append-drop, drop_more, All-nil, All-cons, All-append, All-push, All-weaker, position-Some, AllPass-from_list_all, bytes_eq-Decides, none-some, same_Some, option_and_then_some, get_or_from_slice_get, slice_get_within}
 use Rattle.std.specs.Char.{is_ascii_digit}
-use Rattle.std.specs.List.{list_all}
-use Rattle.std.proofs.lemmas.Bool.{and_parts}
-use Rattle.std.proofs.lemmas.Bool.Decides.{nat_tests}
-use Rattle.std.proofs.lemmas.List.{take-append-drop, drop_more}
-use Rattle.std.proofs.lemmas.List.Elements.{All-nil, All-cons, All-append, All-push, All-weaker}
-use Rattle.std.proofs.lemmas.List.Quantifiers.{position-Some}
-use Rattle.std.proofs.lemmas.List.Sums.{AllPass-from_list_all}
-use Rattle.std.proofs.lemmas.Slice.Eq.{bytes_eq-Decides}
-use Rattle.std.proofs.lemmas.Option.{none-some, same_Some, option_and_then_some, get_or_from_slice_get, slice_get_within}
-use Rattle.plan_base.specs.declared.modes.Mode.{Mode}
-use Rattle.plan_base.specs.declared.places.Place.{Place}
-use Rattle.plan_base.specs.LetterNames.{road_names}
-use Rattle.plan_base.specs.Modes.{mode_named}
-use Rattle.plain_texts.specs.Digits.{digit_of}
-use Rattle.plain_texts.specs.FixedDecimal.{fixed_step, fixed_at}
-use Rattle.plain_texts.specs.Lines.{is_feed, IsLine}
-use Rattle.plain_texts.specs.Names.{is_name}
-use Rattle.plain_texts.specs.Numbers.{id_at}
-use Rattle.plain_texts.proofs.Digits.{fold_takes, digit_takes}
-use Rattle.plain_texts.proofs.Signed.{signed_takes}
-use Rattle.plain_texts.proofs.Spaced.{word_is_line, signed_is_word, name_is_word}
-use Rattle.geo_length.specs.Degrees.{are_digits, is_point, whole_of, part_of, units_at, units_of, size_of, degrees_of}
-use Rattle.service_days.specs.Dates.{date_at}
-use Rattle.service_days.specs.DaysMeaning.{DaysMeaning}
+use Rattle.plan_base.specs.{Mode, Place, road_names, mode_named}
+use Rattle.plain_texts.specs.{digit_of, fixed_step, fixed_at, is_feed, IsLine, is_name, id_at}
+use Rattle.plain_texts.proofs.{Digits.fold_takes, Digits.digit_takes, Signed.signed_takes, Spaced.word_is_line, Spaced.signed_is_word, Spaced.name_is_word}
+use Rattle.geo_length.specs.{are_digits, is_point, whole_of, part_of, units_at, units_of, size_of, degrees_of}
+use Rattle.service_days.specs.{date_at, DaysMeaning.DaysMeaning}
 use Rattle.mode_expression.specs.Form.{Form}
-use Rattle.mode_network.specs.declared.endpoints.Endpoint.{Endpoint}
-use Rattle.mode_network.specs.declared.endpoints.Endpoint.TheVariants.{Road, Stop, Near, NearIn}
-use Rattle.mode_network.specs.NetworkLists.{NetworkLists}
-use Rattle.mode_network.specs.Rules.{IsNetwork}
-use Rattle.journey.specs.Shapes.{Fields, Shape, at_byte, place_at, near_in_at, endpoint_of, fields_of, is_filled, shape_of_fields, shape_of, part_at, millis_at, time_at, departs_on}
-use Rattle.journey.specs.Queries.{IsKnown, IsQuery}
+use Rattle.mode_network.specs.{Endpoint, Near, NearIn, IsNetwork, declared.endpoints.Endpoint.TheVariants.Road, declared.endpoints.Endpoint.TheVariants.Stop, NetworkLists.NetworkLists}
+use Rattle.journey.specs.{Fields, Shape, at_byte, place_at, near_in_at, endpoint_of, fields_of, is_filled, shape_of_fields, shape_of, part_at, millis_at, time_at, departs_on, IsKnown, IsQuery}
 use Rattle.journey.proofs.ExpressionLines.{spelled_is_line}
 
 mapped : {A B : Type 0} (f : A → B) (o : Option A) (y : B) → option_map f o ≡ Some y → (x : A) × (o ≡ Some x) × (f x ≡ y)

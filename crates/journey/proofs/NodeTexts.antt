@@ -1,28 +1,13 @@
 -- The text of a node tells its number: keys are unique, and no two keys have one text.
-use Rattle.std.proofs.Common.{◌≡◌, ℕ, ◌+◌, ◌-◌, ◌<◌, ◌∙◌, inl, inr, List, [], ◌∷◌, ◌++◌, length, length-append, Option, Some, None, refl, ap, ap₂, sym, subst, arith, codes, get_or, position, bytes_eq}
-use Rattle.std.specs.Prelude.{slice_get, unwrap_or, option_map}
-use Rattle.std.specs.Fmt.{signed_decimal}
-use Rattle.std.specs.Ordering.{ordering_then, ordering_reverse, nat_cmp, int_cmp}
-use Rattle.std.specs.Cmp.{IsTotalOrder}
-use Rattle.std.specs.declared.cmp.Ordering.{Ordering}
-use Rattle.std.specs.declared.cmp.Ordering.TheVariants.{Less, Equal, Greater}
-use Rattle.std.proofs.lemmas.Bool.{cases_lt}
-use Rattle.std.proofs.lemmas.List.{get_or_append_left, get_or-append_right}
-use Rattle.std.proofs.lemmas.List.Elements.{All-cons, All-append}
-use Rattle.std.proofs.lemmas.Option.{slice_get-get_or, slice_get_within, get_or_from_slice_get, slice_get_cases, unwrap_or-slice_get}
-use Rattle.plan_base.specs.LetterNames.{letter_names}
-use Rattle.plan_base.specs.Modes.{number_of_mode}
-use Rattle.plan_base.specs.declared.modes.Mode.{Mode}
-use Rattle.plain_texts.specs.Lines.{IsWord}
-use Rattle.plain_texts.specs.Numbers.{IsId}
+use Rattle.plan_base.proofs.Common.{◌≡◌, ℕ, ◌+◌, ◌-◌, ◌<◌, ◌∙◌, inl, inr, List, [], ◌∷◌, ◌++◌, length, length-append, Option, Some, None, refl, ap, ap₂, sym, subst, arith, codes, get_or, position, bytes_eq, slice_get, unwrap_or, option_map, signed_decimal, ordering_then, ordering_reverse, nat_cmp, int_cmp, IsTotalOrder, Ordering, Less, Equal, Greater, cases_lt, get_or_append_left, All-cons, All-append, slice_get-get_or, slice_get_within, get_or_from_slice_get, slice_get_cases}
+use Rattle.std.proofs.lemmas.List.{get_or-append_right}
+use Rattle.std.proofs.lemmas.Option.{unwrap_or-slice_get}
+use Rattle.plan_base.specs.{letter_names, number_of_mode, Mode}
+use Rattle.plain_texts.specs.{IsWord, IsId}
 use Rattle.plain_texts.proofs.Spaced.{word_by_test, signed_is_word, name_is_word}
-use Rattle.mode_network.specs.declared.nodes.Node.{Node}
-use Rattle.mode_network.specs.declared.nodes.NodeKey.{NodeKey}
-use Rattle.mode_network.specs.declared.nodes.NodeKey.TheVariants.{Road, Stop, Switch}
-use Rattle.mode_network.specs.NetworkLists.{NetworkLists, nodes_of}
-use Rattle.mode_network.specs.Rules.{IsNetwork, IsRoad, IsStop, IsSwitch, IsAscending, rank_of, node_cmp, name_cmp}
+use Rattle.mode_network.specs.{Node, NodeKey, Road, Stop, Switch, nodes_of, IsNetwork, IsRoad, IsStop, IsSwitch, IsAscending, rank_of, node_cmp, name_cmp, NetworkLists.NetworkLists}
 use Rattle.mode_network.proofs.RuleLemmas.{mode_by_number, nodes_total, names_total, number_is_low}
-use Rattle.journey.specs.Texts.{key_text, node_text, letter_text}
+use Rattle.journey.specs.{key_text, node_text, letter_text}
 use Rattle.journey.proofs.TextParts.{Lacks, cut_once, letter_tells, letter_is_word, letter_once, id_once, lacks_by_test}
 
 -- ---- rows that ascend

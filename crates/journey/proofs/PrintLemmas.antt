@@ -1,14 +1,9 @@
 -- A journey is printed part by part.
-use Rattle.std.proofs.Common.{◌≡◌, ℕ, List, [], ◌++◌, ◌∙◌, append_assoc, ap}
-use Rattle.std.specs.Prelude.{codes}
-use Rattle.plain_texts.specs.Lines.{with_feed}
-use Rattle.service_days.specs.Clock.{clock_text_of}
-use Rattle.mode_network.specs.declared.steps.Step.{Step}
-use Rattle.mode_network.specs.NetworkLists.{NetworkLists}
-use Rattle.journey.specs.declared.telling.Told.{Told}
-use Rattle.journey.specs.inside.Telling.{IsTold}
-use Rattle.journey.specs.Texts.{IsJourneyText, word_text, place_text, block_text}
-use Rattle.journey.specs.Blocks.{AddsText, IsFramed}
+use Rattle.plan_base.proofs.Common.{◌≡◌, ℕ, List, [], ◌++◌, ◌∙◌, append_assoc, ap, codes}
+use Rattle.plain_texts.specs.{with_feed}
+use Rattle.service_days.specs.{clock_text_of}
+use Rattle.mode_network.specs.{Step, NetworkLists.NetworkLists}
+use Rattle.journey.specs.{declared.telling.Told.Told, inside.IsTold, IsJourneyText, word_text, place_text, block_text, AddsText, IsFramed}
 
 -- what was pushed after one another is one text at the end
 four_parts : (old a b c d o1 o2 o3 o4 : List ℕ) → o1 ≡ old ++ a → o2 ≡ o1 ++ b → o3 ≡ o2 ++ c → o4 ≡ o3 ++ d → o4 ≡ old ++ (a ++ b ++ c ++ d)

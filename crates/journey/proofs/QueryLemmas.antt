@@ -1,33 +1,12 @@
 -- Why query lines are refused.
-use Rattle.std.proofs.Common.{◌≡◌, ℕ, ℤ, zero, suc, ◌<◌, ◌≤◌, ◌⊎◌, ◌∙◌, inl, inr, is_some, nat_lt, Bool, true, false, Option, Some, None, Result, Ok, Err, List, [], ◌∷◌, length, refl, ap, sym, subst, arith}
-use Rattle.std.specs.Prelude.{IsTrue, ◌↔◌, All, option_map, slice_index_or}
-use Rattle.std.specs.Option.{ok_or}
-use Rattle.std.proofs.Math.Nat.{le_refl}
-use Rattle.service_days.specs.Dates.{date_at}
-use Rattle.service_days.specs.DaysMeaning.{DaysMeaning}
-use Rattle.mode_network.specs.NetworkLists.{NetworkLists}
-use Rattle.mode_network.specs.declared.nodes.Node.{Node}
-use Rattle.mode_network.specs.declared.nodes.NodeKey.{NodeKey}
-use Rattle.mode_network.specs.declared.nodes.NodeKey.TheVariants.{Road as RoadKey, Stop as StopKey, Switch as SwitchKey}
-use Rattle.mode_network.specs.declared.endpoints.Endpoint.{Endpoint}
-use Rattle.mode_network.specs.declared.endpoints.Endpoint.TheVariants.{Road, Stop, Near, NearIn}
-use Rattle.mode_network.specs.Rules.{IsNetwork, IsRoad, rank_of}
-use Rattle.mode_network.specs.Copies.{AreExactly, IsCopy, IsRoadCopy, IsNearestIn, IsNearestRoad, road_points}
-use Rattle.geo_length.specs.Nearest.{Point}
+use Rattle.plan_base.proofs.Common.{◌≡◌, ℕ, ℤ, zero, suc, ◌<◌, ◌≤◌, ◌⊎◌, ◌∙◌, inl, inr, is_some, nat_lt, Bool, true, false, Option, Some, None, Result, Ok, Err, List, [], ◌∷◌, length, refl, ap, sym, subst, arith, IsTrue, ◌↔◌, All, option_map, slice_index_or, ok_or, le_refl, ltb-true, ltb-false}
+use Rattle.service_days.specs.{date_at, DaysMeaning.DaysMeaning}
+use Rattle.mode_network.specs.{NetworkLists.NetworkLists, Node, NodeKey, Road as RoadKey, Stop as StopKey, Switch as SwitchKey, Endpoint, Near, NearIn, IsNetwork, IsRoad, rank_of, AreExactly, IsCopy, IsRoadCopy, IsNearestIn, IsNearestRoad, road_points, declared.endpoints.Endpoint.TheVariants.Road, declared.endpoints.Endpoint.TheVariants.Stop}
+use Rattle.geo_length.specs.{Point}
 use Rattle.mode_network.proofs.LayerLemmas.{layer_node}
-use Rattle.plan_base.specs.declared.modes.Mode.{Mode}
-use Rattle.plan_base.specs.declared.places.Place.{Place}
-use Rattle.std.proofs.lemmas.Bool.{ltb-true, ltb-false}
-use Rattle.mode_expression.specs.declared.fault.ExprFault.{ExprFault}
-use Rattle.mode_expression.specs.declared.fault.ExprFault.TheVariants.{TooLong as LongExpression, TooDeep as DeepExpression, Syntax as BadSyntax, TooLarge as LargeExpression, OutOfMemory as NoMemory}
-use Rattle.mode_expression.specs.Reading.{IsFault}
-use Rattle.journey.specs.declared.endpoints.Lack.{Lack}
-use Rattle.journey.specs.declared.endpoints.Lack.TheVariants.{Unknown, Far}
-use Rattle.journey.specs.declared.fault.QueryFault.{QueryFault}
-use Rattle.journey.specs.declared.fault.QueryFault.TheVariants.{BadClock, OutOfRange}
-use Rattle.journey.specs.Shapes.{Shape, shape_of, time_at, departure_on, departs_on, departs_at}
-use Rattle.journey.specs.Faults.{fault_of, destination_fault}
-use Rattle.journey.specs.Queries.{IsRefusal, ReachesExpression, IsKnown, IsUnknown, IsFar, IsLack}
+use Rattle.plan_base.specs.{Mode, Place}
+use Rattle.mode_expression.specs.{ExprFault, TooLong as LongExpression, TooDeep as DeepExpression, Syntax as BadSyntax, TooLarge as LargeExpression, OutOfMemory as NoMemory, IsFault}
+use Rattle.journey.specs.{Lack, Unknown, Far, QueryFault, BadClock, OutOfRange, Shape, shape_of, time_at, departure_on, departs_on, departs_at, fault_of, destination_fault, IsRefusal, ReachesExpression, IsKnown, IsUnknown, IsFar, IsLack}
 
 err_is : {a b : QueryFault} → (let r : Result ℕ QueryFault = Err a in r) ≡ Err b → a ≡ b
 err_is e = cc

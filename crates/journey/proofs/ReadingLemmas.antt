@@ -1,28 +1,11 @@
 -- A query line asks one thing or is refused with one fault: part by part, each part says one thing.
-use Rattle.std.proofs.Common.{◌≡◌, ℕ, ℤ, ◌≤◌, ◌⊎◌, inl, inr, List, [], true, false, Option, Some, None, Result, Ok, Err, refl, sym, ap, ap₂, subst, ◌∙◌, arith}
-use Rattle.std.specs.Prelude.{length}
-use Rattle.std.proofs.lemmas.List.Elements.{All-contains}
-use Rattle.mode_expression.specs.declared.fault.ExprFault.{ExprFault}
-use Rattle.mode_expression.specs.declared.fault.ExprFault.TheVariants.{TooLong as LongExpression, TooDeep as DeepExpression, Syntax as BadSyntax, TooLarge as LargeExpression}
-use Rattle.mode_expression.specs.Form.{Form}
-use Rattle.mode_expression.specs.Reading.{IsParse}
+use Rattle.plan_base.proofs.Common.{◌≡◌, ℕ, ℤ, ◌≤◌, ◌⊎◌, inl, inr, List, [], true, false, Option, Some, None, Result, Ok, Err, refl, sym, ap, ap₂, subst, ◌∙◌, arith, length, All-contains}
+use Rattle.mode_expression.specs.{ExprFault, TooLong as LongExpression, TooDeep as DeepExpression, Syntax as BadSyntax, TooLarge as LargeExpression, IsParse, Form.Form}
 use Rattle.mode_expression.proofs.UniqueLemmas.{same_outcome}
-use Rattle.geo_length.specs.Nearest.{Point, IsClosest, length_to}
-use Rattle.mode_network.specs.declared.nodes.Node.{Node}
-use Rattle.mode_network.specs.declared.endpoints.Endpoint.{Endpoint}
-use Rattle.mode_network.specs.declared.endpoints.Endpoint.TheVariants.{Road, Stop, Near, NearIn}
-use Rattle.mode_network.specs.NetworkLists.{NetworkLists}
-use Rattle.mode_network.specs.Copies.{layer_nodes, layer_points, road_points}
-use Rattle.plan_base.specs.declared.places.Place.{Place}
-use Rattle.journey.specs.declared.fault.QueryFault.{QueryFault}
-use Rattle.journey.specs.declared.fault.QueryFault.TheVariants.{Shape as NoShape, BadClock, OutOfRange, UnknownFrom, UnknownTo, TooLong, TooDeep, Syntax, TooLarge, OffNetwork, OutOfMemory}
-use Rattle.journey.specs.declared.endpoints.Lack.{Lack}
-use Rattle.journey.specs.declared.endpoints.Lack.TheVariants.{Unknown, Far}
-use Rattle.journey.specs.Faults.{origin_fault, destination_fault, fault_of}
-use Rattle.journey.specs.Shapes.{Shape, shape_of, departs_at}
-use Rattle.journey.specs.Queries.{IsKnown, IsUnknown, IsFar, IsLack, Departs, ReachesExpression}
-use Rattle.journey.specs.Best.{Asked}
-use Rattle.journey.specs.Reading.{IsReading, ReadingIsUnique}
+use Rattle.geo_length.specs.{Point, IsClosest, length_to}
+use Rattle.mode_network.specs.{Node, Endpoint, Near, NearIn, layer_nodes, layer_points, road_points, declared.endpoints.Endpoint.TheVariants.Road, declared.endpoints.Endpoint.TheVariants.Stop, NetworkLists.NetworkLists}
+use Rattle.plan_base.specs.{Place}
+use Rattle.journey.specs.{QueryFault, BadClock, OutOfRange, UnknownFrom, UnknownTo, TooLong, TooDeep, Syntax, TooLarge, OffNetwork, OutOfMemory, Lack, Unknown, Far, origin_fault, destination_fault, fault_of, Shape, shape_of, departs_at, IsKnown, IsUnknown, IsFar, IsLack, Departs, ReachesExpression, Asked, IsReading, ReadingIsUnique, declared.fault.QueryFault.TheVariants.Shape as NoShape}
 
 -- ---- what an endpoint lacks
 

@@ -1,25 +1,12 @@
 -- What is true of the rides that a network's runs allow.
-use Rattle.std.proofs.Common.{◌≡◌, ℕ, ◌<◌, ◌^◌, length, Some, true, false, Bool, nat_lt, refl, ap, subst, arith, List, Option, None}
-use Rattle.std.specs.Prelude.{slice_get, option_map, option_and_then}
-use Rattle.std.proofs.lemmas.Bool.{leb-true, ltb-true, ltb-false, eqb-true}
-use Rattle.std.proofs.lemmas.Nat.Bits.{bit_at_above}
-use Rattle.std.specs.Int.{bit_at}
-use Rattle.plan_base.specs.declared.days.DaySet.{DaySet}
-use Rattle.plan_base.specs.DaySets.{contains_day}
-use Rattle.std.proofs.lemmas.Option.{slice_get_within, get_or_from_slice_get}
-use Rattle.service_days.specs.Days.{numbers_of}
-use Rattle.timetable_arcs.specs.declared.trips.Call.{Call}
-use Rattle.timetable_arcs.specs.Trips.{TripLists, IsRunOf, arrival_of}
-use Rattle.timetable_arcs.specs.TripRules.{is_early}
+use Rattle.plan_base.proofs.Common.{◌≡◌, ℕ, ◌<◌, ◌^◌, length, Some, true, false, Bool, nat_lt, refl, ap, subst, arith, List, Option, None, slice_get, option_map, option_and_then, leb-true, ltb-true, ltb-false, eqb-true, bit_at_above, bit_at, slice_get_within, get_or_from_slice_get}
+use Rattle.plan_base.specs.{DaySet, contains_day}
+use Rattle.service_days.specs.{numbers_of}
+use Rattle.timetable_arcs.specs.{Call, TripLists, IsRunOf, arrival_of, is_early}
 use Rattle.timetable_arcs.proofs.TripLemmas.{IsKeptTrip, trips_kept, trip_well, known_stops, both_true}
-use Rattle.mode_network.specs.NetworkLists.{NetworkLists}
-use Rattle.mode_network.specs.Rules.{IsNetwork}
+use Rattle.mode_network.specs.{NetworkLists.NetworkLists, IsNetwork, Ride, IsStep}
 use Rattle.mode_network.proofs.RuleLemmas.{some_is}
-use Rattle.mode_network.specs.declared.steps.Step.TheVariants.{Ride}
-use Rattle.mode_network.specs.Journeys.{IsStep}
-use Rattle.journey.specs.declared.rides.AllowedRide.{AllowedRide}
-use Rattle.journey.specs.declared.rides.NamedRide.{NamedRide}
-use Rattle.journey.specs.Rides.{KeepsRules, IsAllowed, letter_and_stop}
+use Rattle.journey.specs.{AllowedRide, NamedRide, KeepsRules, IsAllowed, letter_and_stop}
 
 -- a set of days that is below a power of two has no day from its exponent on
 day_below : (days : DaySet) (day k : ℕ) → days.0 < 2 ^ k → contains_day days day ≡ true → day < k

@@ -1,23 +1,11 @@
 -- Steps of a network, one after the other.
-use Rattle.std.proofs.Common.{◌≡◌, ℕ, ◌+◌, ◌<◌, ◌≤◌, ◌∙◌, List, [], ◌∷◌, ◌++◌, length, length-append, ◌*◌, append_assoc, append-nil, ◌⊎◌, inl, inr, ◌^◌, Option, Some, refl, ap, sym, subst, arith}
-use Rattle.std.specs.Prelude.{option_to_list, slice_get}
-use Rattle.std.proofs.lemmas.Option.{slice_get_within}
-use Rattle.timetable_arcs.specs.declared.trips.Call.{Call}
-use Rattle.timetable_arcs.specs.Trips.{TripLists, arrival_of}
-use Rattle.plain_texts.specs.Lines.{with_feed}
-use Rattle.mode_network.specs.declared.nodes.Arc.{Arc}
-use Rattle.mode_network.specs.declared.steps.Step.{Step}
-use Rattle.mode_network.specs.declared.steps.Step.TheVariants.{Wait, Road, Link, Stand, Ride}
-use Rattle.mode_network.specs.NetworkLists.{NetworkLists, nodes_of, stop_node}
-use Rattle.mode_network.specs.Rules.{IsNetwork}
-use Rattle.mode_network.specs.Journeys.{IsStep, AreSteps}
-use Rattle.std.proofs.Math.Nat.{lt_of_lt_of_le}
-use Rattle.mode_network.proofs.FindLemmas.{leads_once}
-use Rattle.mode_network.proofs.RuleLemmas.{some_is, arcs_in_range, links_in_range, nodes_hold_roads}
-use Rattle.search_laws.specs.Times.{time_bound}
-use Rattle.journey.specs.Ends.{AreTaken, HasTime}
-use Rattle.journey.specs.Texts.{step_text, AreTold, IsThere}
-use Rattle.journey.specs.Rides.{KeepsRules}
+use Rattle.plan_base.proofs.Common.{◌≡◌, ℕ, ◌+◌, ◌<◌, ◌≤◌, ◌∙◌, List, [], ◌∷◌, ◌++◌, length, length-append, ◌*◌, append_assoc, append-nil, ◌⊎◌, inl, inr, ◌^◌, Option, Some, refl, ap, sym, subst, arith, option_to_list, slice_get, slice_get_within, lt_of_lt_of_le}
+use Rattle.timetable_arcs.specs.{Call, TripLists, arrival_of}
+use Rattle.plain_texts.specs.{with_feed}
+use Rattle.mode_network.specs.{Arc, Step, Wait, Link, Stand, Ride, nodes_of, stop_node, IsNetwork, IsStep, AreSteps, declared.steps.Step.TheVariants.Road, NetworkLists.NetworkLists}
+use Rattle.mode_network.proofs.{FindLemmas.leads_once, RuleLemmas.some_is, RuleLemmas.arcs_in_range, RuleLemmas.links_in_range, RuleLemmas.nodes_hold_roads}
+use Rattle.search_laws.specs.{time_bound}
+use Rattle.journey.specs.{AreTaken, HasTime, step_text, AreTold, IsThere, KeepsRules}
 use Rattle.journey.proofs.RideLemmas.{call_named, run_within, arrives_soon}
 
 module _ (n : NetworkLists) where

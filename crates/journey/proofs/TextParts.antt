@@ -1,26 +1,12 @@
 -- The parts of the lines of a block, each of which tells what it is of.
-use Rattle.std.proofs.Common.{◌≡◌, ◌≢◌, ℕ, ℤ, zero, suc, ◌+◌, ◌-◌, ◌/◌, ◌%◌, ◌^◌, ◌<◌, ◌≤◌, ◌∙◌, List, [], ◌∷◌, ◌++◌, Bool, true, false, Some, refl, ap, ap₂, sym, arith, codes, append_assoc}
-use Rattle.std.specs.Prelude.{All, nat_lt, not, ◌==◌, if◌then◌else◌, position, bytes_eq, flat_map, decimal}
-use Rattle.std.specs.Fmt.{signed_decimal}
-use Rattle.std.specs.List.{list_all}
-use Rattle.std.proofs.lemmas.Bool.Decides.{nat_tests}
-use Rattle.std.proofs.lemmas.List.Elements.{All-nil, All-cons, All-push, All-append, All-weaker}
-use Rattle.std.proofs.lemmas.List.Sums.{AllPass-from_list_all}
-use Rattle.std.proofs.lemmas.Option.{same_Some}
-use Rattle.plan_base.specs.LetterNames.{letter_names}
-use Rattle.plain_texts.specs.Lines.{IsWord}
-use Rattle.plain_texts.specs.Numbers.{IsId, signed_at}
-use Rattle.plain_texts.specs.FixedDecimal.{fixed_decimal}
-use Rattle.plain_texts.proofs.FixedDecimal.{fixed_decimal-zero, fixed_decimal-suc}
-use Rattle.plain_texts.proofs.Signed.{signed_again}
-use Rattle.plain_texts.proofs.Spaced.{word_by_test, decimal_is_word}
-use Rattle.service_days.specs.DaysMeaning.{DaysMeaning}
-use Rattle.service_days.specs.Days.{AreDays, base_of, date_of, day_at}
-use Rattle.service_days.specs.Clock.{hours_text, part_text, time_text, clock_text_of}
-use Rattle.service_days.specs.ReadClock.{clock_at}
+use Rattle.plan_base.proofs.Common.{◌≡◌, ◌≢◌, ℕ, ℤ, zero, suc, ◌+◌, ◌-◌, ◌/◌, ◌%◌, ◌^◌, ◌<◌, ◌≤◌, ◌∙◌, List, [], ◌∷◌, ◌++◌, Bool, true, false, Some, refl, ap, ap₂, sym, arith, codes, append_assoc, All, nat_lt, not, ◌==◌, if◌then◌else◌, position, bytes_eq, flat_map, decimal, signed_decimal, list_all, nat_tests, All-nil, All-cons, All-push, All-append, All-weaker, AllPass-from_list_all, same_Some}
+use Rattle.plan_base.specs.{letter_names}
+use Rattle.plain_texts.specs.{IsWord, IsId, signed_at, fixed_decimal}
+use Rattle.plain_texts.proofs.{FixedDecimal.fixed_decimal-zero, FixedDecimal.fixed_decimal-suc, Signed.signed_again, Spaced.word_by_test, Spaced.decimal_is_word}
+use Rattle.service_days.specs.{DaysMeaning.DaysMeaning, AreDays, base_of, date_of, day_at, hours_text, part_text, time_text, clock_text_of, clock_at}
 use Rattle.service_days.proofs.ClockLaws.{clock_again}
-use Rattle.search_laws.specs.Letters.{IsLetter}
-use Rattle.journey.specs.Texts.{letter_text}
+use Rattle.search_laws.specs.{IsLetter}
+use Rattle.journey.specs.{letter_text}
 
 -- ---- a mark after a part that lacks it
 

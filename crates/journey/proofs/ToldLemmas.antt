@@ -1,19 +1,10 @@
 -- What the telling of a journey keeps from step to step.
-use Rattle.std.proofs.Common.{◌≡◌, ℕ, ◌+◌, ◌*◌, ◌^◌, ◌<◌, ◌∙◌, List, [], ◌∷◌, ◌++◌, length, take, drop, Option, Some, None, ap, sym, subst, append-nil, suc, add-one, drop-cons}
-use Rattle.std.specs.Prelude.{option_to_list, slice_index_or, All}
-use Rattle.std.proofs.lemmas.List.{take_more}
-use Rattle.search_laws.specs.Times.{time_bound}
-use Rattle.search_laws.specs.Collapse.{collapse}
-use Rattle.plain_texts.specs.Lines.{with_feed}
-use Rattle.mode_network.specs.declared.steps.Step.{Step}
-use Rattle.mode_network.specs.NetworkLists.{NetworkLists, nodes_of}
-use Rattle.mode_network.specs.Journeys.{IsStep}
-use Rattle.journey.specs.Rides.{KeepsRules}
-use Rattle.journey.specs.Ends.{AreTaken, HasTime}
-use Rattle.journey.specs.inside.Words.{with_letter}
-use Rattle.journey.specs.Texts.{step_text, AreTold}
-use Rattle.journey.proofs.CollapseLemmas.{collapse_more}
-use Rattle.journey.proofs.StepLemmas.{told_more, taken_on, step_in_range, step_in_time, on_time}
+use Rattle.plan_base.proofs.Common.{◌≡◌, ℕ, ◌+◌, ◌*◌, ◌^◌, ◌<◌, ◌∙◌, List, [], ◌∷◌, ◌++◌, length, take, drop, Option, Some, None, ap, sym, subst, append-nil, suc, add-one, drop-cons, option_to_list, slice_index_or, All, take_more}
+use Rattle.search_laws.specs.{time_bound, collapse}
+use Rattle.plain_texts.specs.{with_feed}
+use Rattle.mode_network.specs.{Step, nodes_of, IsStep, NetworkLists.NetworkLists}
+use Rattle.journey.specs.{KeepsRules, AreTaken, HasTime, step_text, AreTold, inside.with_letter}
+use Rattle.journey.proofs.{CollapseLemmas.collapse_more, StepLemmas.told_more, StepLemmas.taken_on, StepLemmas.step_in_range, StepLemmas.step_in_time, StepLemmas.on_time}
 
 -- after k steps from v at t the journey is at the node at the time, and has this word and these lines
 pub record IsTelling (n : NetworkLists) (v t : ℕ) (steps : List Step) (k node at : ℕ) (word lines : List ℕ) : Type 0 where

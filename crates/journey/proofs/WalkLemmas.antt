@@ -1,22 +1,10 @@
 -- How far the steps of a journey can be taken, and the word of those that are taken.
-use Rattle.std.proofs.Common.{◌≡◌, ℕ, zero, suc, ◌+◌, ◌*◌, ◌^◌, ◌<◌, ◌∙◌, List, [], ◌∷◌, ◌++◌, length, take, drop, Option, Some, None, is_some, not, Bool, true, false, refl, ap, sym, subst, arith}
-use Rattle.std.specs.Prelude.{option_to_list, slice_index_or, All, IsTrue, ◌↔◌}
-use Rattle.std.proofs.Math.Seq.{take-length}
-use Rattle.std.proofs.lemmas.List.{take_more}
-use Rattle.std.proofs.lemmas.Option.{slice_get-get_or}
-use Rattle.search_laws.specs.Times.{time_bound}
-use Rattle.search_laws.specs.Collapse.{collapse}
-use Rattle.mode_network.specs.declared.steps.Step.{Step}
-use Rattle.mode_network.specs.NetworkLists.{NetworkLists}
-use Rattle.mode_network.specs.Rules.{IsNetwork}
-use Rattle.mode_network.specs.Journeys.{Route, IsStep, AreSteps}
+use Rattle.plan_base.proofs.Common.{◌≡◌, ℕ, zero, suc, ◌+◌, ◌*◌, ◌^◌, ◌<◌, ◌∙◌, List, [], ◌∷◌, ◌++◌, length, take, drop, Option, Some, None, is_some, not, Bool, true, false, refl, ap, sym, subst, option_to_list, slice_index_or, All, IsTrue, ◌↔◌, take-length, take_more, slice_get-get_or}
+use Rattle.search_laws.specs.{time_bound, collapse}
+use Rattle.mode_network.specs.{Step, IsNetwork, Route, IsStep, AreSteps, NetworkLists.NetworkLists}
 use Rattle.mode_network.proofs.RuleLemmas.{some_is}
-use Rattle.journey.specs.Rides.{KeepsRules}
-use Rattle.journey.specs.Ends.{AreTaken, HasTime}
-use Rattle.journey.specs.inside.Words.{with_letter}
-use Rattle.journey.specs.Real.{IsFirstBad, FirstBad, IsReal, EndsAt, HasWord, IsSpelt, AlwaysLeadsTo}
-use Rattle.journey.proofs.StepLemmas.{steps_more, taken_on, step_in_time, on_time}
-use Rattle.journey.proofs.ToldLemmas.{next_step, with_more}
+use Rattle.journey.specs.{KeepsRules, AreTaken, HasTime, IsFirstBad, FirstBad, IsReal, EndsAt, HasWord, IsSpelt, AlwaysLeadsTo, inside.with_letter}
+use Rattle.journey.proofs.{StepLemmas.steps_more, StepLemmas.taken_on, StepLemmas.step_in_time, StepLemmas.on_time, ToldLemmas.next_step, ToldLemmas.with_more}
 
 -- after k steps from v at t the journey is at the node at the time
 pub record IsWalking (n : NetworkLists) (v t : ℕ) (steps : List Step) (k node at : ℕ) : Type 0 where
@@ -28,9 +16,6 @@ one_more : (steps : List Step) (k : ℕ) (step : Step) → k < length steps → 
 one_more steps k step lt is = take_more steps k step lt ∙ ap (λ (x : Step). take k steps ++ x ∷ []) is
 
 module _ (n : NetworkLists) (v t : ℕ) (steps : List Step) where
-  pub walking_starts : t < time_bound → IsWalking n v t steps 0 v t
-  walking_starts time = record { letters = []; before = (refl, refl, refl); in_time = omega arith }
-
   pub walking_more : KeepsRules n → All HasTime steps → (k node at : ℕ) (step : Step) → IsWalking n v t steps k node at → k < length steps
       → slice_index_or steps k step ≡ step → (w u : ℕ) (c : Option ℕ) → IsStep n node at step w u c → IsWalking n v t steps (k + 1) w u
   walking_more rules times k node at step walking lt is w u c here = record {
@@ -50,9 +35,6 @@ module _ (n : NetworkLists) (v t : ℕ) (steps : List Step) where
     step_is = slice_get-get_or steps k step lt ∙ ap Some is;
     bad = bad;
   }
-
-  pub walked_all : (k node at : ℕ) → k ≡ length steps → IsWalking n v t steps k node at → (letters : List ℕ) × AreSteps n v t steps node at letters
-  walked_all k node at whole walking = (walking.letters, subst (λ (l : List Step). AreSteps n v t l node at walking.letters) (ap (λ i. take i steps) whole ∙ take-length steps) walking.before)
 
 -- where a step is none, the journey is not real
 pub bad_not_taken : (n : NetworkLists) → IsNetwork n → (v t : ℕ) (steps : List Step) (place : ℕ) → IsFirstBad n v t steps place → AreTaken n v t steps → ⊥
@@ -78,9 +60,6 @@ pub record IsSpelled (n : NetworkLists) (v t : ℕ) (steps : List Step) (k node 
   pub rest : AreTaken n node at (drop k steps)
 
 module _ (n : NetworkLists) (v t : ℕ) (steps : List Step) where
-  pub spelling_starts : AreTaken n v t steps → IsSpelled n v t steps 0 v []
-  spelling_starts taken = record { at = t; letters = []; before = (refl, refl, refl); word_is = refl; rest = taken }
-
   pub spelling_more : (k node : ℕ) (word : List ℕ) (step : Step) → IsSpelled n v t steps k node word → k < length steps
       → slice_index_or steps k step ≡ step → (w : ℕ) (c : Option ℕ) → AlwaysLeadsTo n node step w c → IsSpelled n v t steps (k + 1) w (with_letter word c)
   spelling_more k node word step spelled lt is w c leads =

@@ -1,12 +1,7 @@
 -- When two journeys go the same way, and that a block tells which way its journey goes.
 use Rattle.std.specs.Prelude.{◌≡◌, ℕ, ◌^◌, ◌<◌, List, [], ◌∷◌, length, Option}
-use Rattle.mode_network.specs.declared.steps.Step.{Step}
-use Rattle.mode_network.specs.NetworkLists.{NetworkLists}
-use Rattle.mode_network.specs.Journeys.{Route, IsStep}
-use Rattle.journey.specs.declared.answer.BlockBody.TheVariants.{Journey}
-use Rattle.journey.specs.Rides.{KeepsRules}
-use Rattle.journey.specs.Blocks.{IsPrintable, IsBlockText}
-use Rattle.journey.specs.Best.{IsRightBody}
+use Rattle.mode_network.specs.{Step, Route, IsStep, NetworkLists.NetworkLists}
+use Rattle.journey.specs.{declared.answer.BlockBody.TheVariants.Journey, Rides.KeepsRules, Blocks.IsPrintable, Blocks.IsBlockText, Best.IsRightBody}
 
 -- where and when a step ends, and with which letter
 pub record EndOfStep : Type 0 where

@@ -1,19 +1,10 @@
 -- Which journeys answer a query, and which answer is the best.
 use Rattle.std.specs.Prelude.{◌≡◌, ℕ, ◌≤◌, ◌⊎◌, List}
-use Rattle.plain_texts.specs.Lines.{with_feed}
-use Rattle.mode_expression.specs.Form.{Form, form_of, IsWordOf}
-use Rattle.mode_network.specs.declared.endpoints.Endpoint.{Endpoint}
-use Rattle.mode_network.specs.NetworkLists.{NetworkLists}
-use Rattle.mode_network.specs.Journeys.{Route, IsJourney}
-use Rattle.mode_network.specs.Copies.{IsCopy}
-use Rattle.journey.specs.declared.answer.BlockBody.{BlockBody}
-use Rattle.journey.specs.declared.answer.BlockBody.TheVariants.{Journey, Nothing, Refused}
-use Rattle.journey.specs.declared.fault.QueryFault.{QueryFault}
-use Rattle.journey.specs.declared.query.Query.{Query}
-use Rattle.journey.specs.Queries.{IsQuery, IsRefused}
-use Rattle.journey.specs.Boarded.{BoardsOnTime}
-use Rattle.journey.specs.Blocks.{IsFramed, IsBlockText}
-use Rattle.journey.specs.Texts.{refusal_text, block_text}
+use Rattle.plain_texts.specs.{with_feed}
+use Rattle.mode_expression.specs.{Form.Form, form_of, IsWordOf}
+use Rattle.mode_network.specs.{Endpoint, Route, IsJourney, IsCopy, NetworkLists.NetworkLists}
+use Rattle.journey.specs.{declared.answer.BlockBody.BlockBody, declared.answer.BlockBody.TheVariants.Journey, declared.answer.BlockBody.TheVariants.Nothing, declared.answer.BlockBody.TheVariants.Refused, declared.fault.QueryFault.QueryFault, Queries.IsQuery, Queries.IsRefused, Boarded.BoardsOnTime, Blocks.IsFramed, Blocks.IsBlockText, Texts.refusal_text, Texts.block_text}
+pub use Rattle.journey.specs.declared.query.Query.{Query}
 
 -- what is asked: journeys from a copy of one endpoint to a copy of another, at a time or later, with a word of a form
 pub record Asked : Type 0 where

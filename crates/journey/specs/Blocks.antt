@@ -1,13 +1,9 @@
 -- The block of a query line: the line, what is answered, and the line `end`.
 use Rattle.std.specs.Prelude.{◌≡◌, ◌≢◌, ℕ, ◌<◌, List, ◌++◌, length, codes}
-use Rattle.plain_texts.specs.Lines.{with_feed}
-use Rattle.mode_network.specs.NetworkLists.{NetworkLists, nodes_of}
-use Rattle.mode_network.specs.Journeys.{Route}
-use Rattle.journey.specs.declared.fault.QueryFault.TheVariants.{OutOfMemory}
-use Rattle.journey.specs.declared.answer.BlockBody.{BlockBody}
-use Rattle.journey.specs.declared.answer.BlockBody.TheVariants.{Journey, Nothing, Refused}
-use Rattle.journey.specs.Ends.{AreTaken, HasTimes}
-use Rattle.journey.specs.Texts.{IsJourneyText, refusal_text, block_text}
+use Rattle.plain_texts.specs.{with_feed}
+use Rattle.mode_network.specs.{NetworkLists.NetworkLists, nodes_of, Route}
+use Rattle.journey.specs.{declared.fault.QueryFault.TheVariants.OutOfMemory, Ends.AreTaken, Ends.HasTimes, Texts.IsJourneyText, Texts.refusal_text, Texts.block_text}
+pub use Rattle.journey.specs.{declared.answer.BlockBody.BlockBody, declared.answer.BlockBody.TheVariants.Journey, declared.answer.BlockBody.TheVariants.Nothing, declared.answer.BlockBody.TheVariants.Refused}
 
 -- a journey that can be printed: it is real, and its times are below 10 ^ 30
 pub record IsPrintable (n : NetworkLists) (j : Route) : Type 0 where

@@ -1,11 +1,7 @@
 -- Rides that are boarded when they depart.
 use Rattle.std.specs.Prelude.{◌≡◌, ℕ, List, [], ◌∷◌, ◌++◌, Option, option_to_list, slice_index_or}
-use Rattle.timetable_arcs.specs.Trips.{departure_of}
-use Rattle.timetable_arcs.specs.Patterns.{no_trip, no_call}
-use Rattle.mode_network.specs.declared.steps.Step.{Step}
-use Rattle.mode_network.specs.declared.steps.Step.TheVariants.{Wait, Road, Link, Stand, Ride}
-use Rattle.mode_network.specs.NetworkLists.{NetworkLists}
-use Rattle.mode_network.specs.Journeys.{Route, IsStep, AreSteps}
+use Rattle.timetable_arcs.specs.{departure_of, no_trip, no_call}
+use Rattle.mode_network.specs.{Step, Wait, Link, Stand, Ride, Route, IsStep, AreSteps, declared.steps.Step.TheVariants.Road, NetworkLists.NetworkLists}
 
 -- the step is no ride, or one that departs at t
 abbrev pub DepartsAt : NetworkLists → ℕ → Step → Type 0

@@ -1,8 +1,6 @@
 -- The copies of an endpoint as a list.
 use Rattle.std.specs.Prelude.{ℕ, ◌<◌, ◌↔◌, List, AllPairs, Contains}
-use Rattle.mode_network.specs.declared.endpoints.Endpoint.{Endpoint}
-use Rattle.mode_network.specs.NetworkLists.{NetworkLists}
-use Rattle.mode_network.specs.Copies.{IsCopy}
+use Rattle.mode_network.specs.{Endpoint, IsCopy, NetworkLists.NetworkLists}
 
 -- the numbers are those of the copies of an endpoint, in order; there is one such list
 pub record AreTheCopies (n : NetworkLists) (endpoint : Endpoint) (list : List ℕ) : Type 0 where

@@ -1,11 +1,8 @@
 -- Where and when a step ends.
 use Rattle.std.specs.Prelude.{ℕ, ◌<◌, List, Option, Some, None, All}
-use Rattle.mode_network.specs.declared.steps.Step.{Step}
-use Rattle.mode_network.specs.declared.steps.Step.TheVariants.{Wait, Road, Link, Stand, Ride}
-use Rattle.mode_network.specs.NetworkLists.{NetworkLists}
-use Rattle.mode_network.specs.Journeys.{Route, IsStep, AreSteps}
-use Rattle.search_laws.specs.Times.{time_bound}
-use Rattle.journey.specs.declared.step_ends.StepEnd.{StepEnd}
+use Rattle.mode_network.specs.{Step, Wait, Link, Stand, Ride, Route, IsStep, AreSteps, declared.steps.Step.TheVariants.Road, NetworkLists.NetworkLists}
+use Rattle.search_laws.specs.{time_bound}
+pub use Rattle.journey.specs.declared.step_ends.StepEnd.{StepEnd}
 
 -- where, when and with which letter the step ends that is taken from v at t; or there is no such step
 abbrev pub IsStepEnd : NetworkLists → ℕ → ℕ → Step → Option StepEnd → Type 0

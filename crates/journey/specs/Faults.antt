@@ -1,11 +1,8 @@
 -- The faults of a query: their numbers, and those that are faults of its expression or of an endpoint.
 use Rattle.std.specs.Prelude.{ℕ, true, false, Option, Some, None}
-use Rattle.mode_expression.specs.declared.fault.ExprFault.{ExprFault}
-use Rattle.mode_expression.specs.declared.fault.ExprFault.TheVariants.{TooLong as LongExpression, TooDeep as DeepExpression, Syntax as BadSyntax, TooLarge as LargeExpression, OutOfMemory as NoMemory}
-use Rattle.journey.specs.declared.fault.QueryFault.{QueryFault}
-use Rattle.journey.specs.declared.fault.QueryFault.TheVariants.{Shape, BadClock, OutOfRange, UnknownFrom, UnknownTo, TooLong, TooDeep, Syntax, TooLarge, OffNetwork, OutOfMemory}
-use Rattle.journey.specs.declared.endpoints.Lack.{Lack}
-use Rattle.journey.specs.declared.endpoints.Lack.TheVariants.{Unknown, Far}
+use Rattle.mode_expression.specs.{ExprFault, TooLong as LongExpression, TooDeep as DeepExpression, Syntax as BadSyntax, TooLarge as LargeExpression, OutOfMemory as NoMemory}
+use Rattle.journey.specs.{declared.fault.QueryFault.QueryFault, declared.fault.QueryFault.TheVariants.Shape, declared.fault.QueryFault.TheVariants.BadClock, declared.fault.QueryFault.TheVariants.OutOfRange}
+pub use Rattle.journey.specs.{declared.fault.QueryFault.TheVariants.UnknownFrom, declared.fault.QueryFault.TheVariants.UnknownTo, declared.fault.QueryFault.TheVariants.TooLong, declared.fault.QueryFault.TheVariants.TooDeep, declared.fault.QueryFault.TheVariants.Syntax, declared.fault.QueryFault.TheVariants.TooLarge, declared.fault.QueryFault.TheVariants.OffNetwork, declared.fault.QueryFault.TheVariants.OutOfMemory, declared.endpoints.Lack.Lack, declared.endpoints.Lack.TheVariants.Unknown, declared.endpoints.Lack.TheVariants.Far}
 
 -- the numbers of the faults; want of memory has none
 abbrev pub number_of : QueryFault → Option ℕ

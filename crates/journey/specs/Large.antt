@@ -1,11 +1,9 @@
 -- Query lines that come to more than a run allows: whose expressions have too many places, or whose searches have too many labels.
 use Rattle.std.specs.Prelude.{◌≡◌, ℕ, ◌<◌, ◌⊎◌, List, ◌++◌, Option, Some, None, codes, decimal}
-use Rattle.plain_texts.specs.Lines.{with_feed}
-use Rattle.mode_expression.specs.Form.{places}
+use Rattle.plain_texts.specs.{with_feed}
+use Rattle.mode_expression.specs.{places}
 use Rattle.mode_network.specs.NetworkLists.{NetworkLists}
-use Rattle.journey.specs.declared.fault.QueryFault.TheVariants.{TooLarge}
-use Rattle.journey.specs.Best.{Asked, Asks}
-use Rattle.journey.specs.Texts.{refusal_text, block_text}
+use Rattle.journey.specs.{declared.fault.QueryFault.TheVariants.TooLarge, Best.Asked, Best.Asks, Texts.refusal_text, Texts.block_text}
 
 -- the line is a query, and its expression has so many places, which are more than are allowed
 abbrev pub IsLarge : NetworkLists → Option ℕ → List ℕ → ℕ → Type 0

@@ -1,18 +1,8 @@
 -- What a query line asks of a network, or the first fault that it has.
 use Rattle.std.specs.Prelude.{◌≡◌, ◌<◌, ◌⊎◌, ℕ, ℤ, List, true, false, Option, Some, None, Ok, Err}
-use Rattle.mode_expression.specs.declared.fault.ExprFault.{ExprFault}
-use Rattle.mode_expression.specs.declared.fault.ExprFault.TheVariants.{TooLong as LongExpression, TooDeep as DeepExpression, Syntax as BadSyntax, TooLarge as LargeExpression}
-use Rattle.mode_expression.specs.Form.{Form}
-use Rattle.mode_expression.specs.Reading.{IsExpression, IsFault}
-use Rattle.mode_network.specs.declared.endpoints.Endpoint.{Endpoint}
-use Rattle.mode_network.specs.declared.endpoints.Endpoint.TheVariants.{Road, Stop, Near, NearIn}
-use Rattle.mode_network.specs.NetworkLists.{NetworkLists}
-use Rattle.mode_network.specs.Copies.{IsCopy, IsNearestIn, IsNearestRoad}
-use Rattle.journey.specs.declared.fault.QueryFault.{QueryFault}
-use Rattle.journey.specs.declared.fault.QueryFault.TheVariants.{Shape as NoShape, BadClock, OutOfRange, UnknownFrom, UnknownTo, TooLong, TooDeep, Syntax, TooLarge, OffNetwork, OutOfMemory}
-use Rattle.journey.specs.declared.endpoints.Lack.{Lack}
-use Rattle.journey.specs.declared.endpoints.Lack.TheVariants.{Unknown, Far}
-use Rattle.journey.specs.Shapes.{Shape, shape_of, departs_at}
+use Rattle.mode_expression.specs.{ExprFault, TooLong as LongExpression, TooDeep as DeepExpression, Syntax as BadSyntax, TooLarge as LargeExpression, IsExpression, IsFault, Form.Form}
+use Rattle.mode_network.specs.{Endpoint, Near, NearIn, IsCopy, IsNearestIn, IsNearestRoad, declared.endpoints.Endpoint.TheVariants.Road, declared.endpoints.Endpoint.TheVariants.Stop, NetworkLists.NetworkLists}
+use Rattle.journey.specs.{declared.fault.QueryFault.QueryFault, declared.fault.QueryFault.TheVariants.Shape as NoShape, declared.fault.QueryFault.TheVariants.BadClock, declared.fault.QueryFault.TheVariants.OutOfRange, declared.fault.QueryFault.TheVariants.UnknownFrom, declared.fault.QueryFault.TheVariants.UnknownTo, declared.fault.QueryFault.TheVariants.TooLong, declared.fault.QueryFault.TheVariants.TooDeep, declared.fault.QueryFault.TheVariants.Syntax, declared.fault.QueryFault.TheVariants.TooLarge, declared.fault.QueryFault.TheVariants.OffNetwork, declared.fault.QueryFault.TheVariants.OutOfMemory, declared.endpoints.Lack.Lack, declared.endpoints.Lack.TheVariants.Unknown, declared.endpoints.Lack.TheVariants.Far, Shapes.Shape, Shapes.shape_of, Shapes.departs_at}
 
 -- some node of the network is a copy of the endpoint
 abbrev pub IsKnown : NetworkLists → Endpoint → Type 0

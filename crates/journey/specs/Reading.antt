@@ -1,9 +1,7 @@
 -- What reading a query line comes to: what it asks, or the fault with which it is refused; and that this is one thing.
 use Rattle.std.specs.Prelude.{◌≡◌, ℕ, List, Result, Ok, Err}
 use Rattle.mode_network.specs.NetworkLists.{NetworkLists}
-use Rattle.journey.specs.declared.fault.QueryFault.{QueryFault}
-use Rattle.journey.specs.Queries.{IsRefused}
-use Rattle.journey.specs.Best.{Asked, Asks}
+use Rattle.journey.specs.{declared.fault.QueryFault.QueryFault, Queries.IsRefused, Best.Asked, Best.Asks}
 
 -- the line asks this, or is refused with this fault
 abbrev pub IsReading : NetworkLists → List ℕ → Result Asked QueryFault → Type 0

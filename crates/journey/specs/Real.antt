@@ -1,9 +1,7 @@
 -- Whether the steps of a journey are steps of the network, where it ends, and its word.
 use Rattle.std.specs.Prelude.{◌≡◌, ℕ, List, Option, Some, None, Result, Ok, Err, take, slice_get}
-use Rattle.search_laws.specs.Collapse.{collapse}
-use Rattle.mode_network.specs.declared.steps.Step.{Step}
-use Rattle.mode_network.specs.NetworkLists.{NetworkLists}
-use Rattle.mode_network.specs.Journeys.{Route, IsStep, AreSteps, IsJourney}
+use Rattle.search_laws.specs.{collapse}
+use Rattle.mode_network.specs.{Step, Route, IsStep, AreSteps, IsJourney, NetworkLists.NetworkLists}
 use Rattle.journey.specs.Ends.{AreTaken}
 
 -- the step at this place is the first that is none: those before it can be taken from v at t, and it can not where and when they end

@@ -1,12 +1,9 @@
 -- Which ride a step names, if its run allows one.
 use Rattle.std.specs.Prelude.{◌≡◌, ℕ, List, Option, Some, None, slice_get, option_and_then, option_map}
-use Rattle.service_days.specs.Days.{AreDays, AreRisingDays}
-use Rattle.timetable_arcs.specs.declared.trips.Call.{Call}
-use Rattle.timetable_arcs.specs.Trips.{TripLists, IsRide}
-use Rattle.mode_network.specs.NetworkLists.{NetworkLists, stop_node}
-use Rattle.mode_network.specs.Rules.{IsNetwork}
-use Rattle.journey.specs.declared.rides.AllowedRide.{AllowedRide}
-use Rattle.journey.specs.declared.rides.NamedRide.{NamedRide}
+use Rattle.service_days.specs.{AreDays, AreRisingDays}
+use Rattle.timetable_arcs.specs.{Call, TripLists, IsRide}
+use Rattle.mode_network.specs.{NetworkLists.NetworkLists, stop_node, IsNetwork}
+pub use Rattle.journey.specs.{declared.rides.AllowedRide.AllowedRide, declared.rides.NamedRide.NamedRide}
 
 -- the rules that the lists of a network keep, and those that its days keep
 pub record KeepsRules (n : NetworkLists) : Type 0 where

@@ -1,19 +1,11 @@
 -- What a query line says by itself: FROM TO DATE TIME EXPR, with one space after each of the first four fields.
-use Rattle.std.specs.Prelude.{ℕ, ◌+◌, ◌*◌, List, [], ◌∷◌, length, take, drop, Bool, ◌==◌, ◌&&◌, nat_lt, nat_eq, nat_le, Option, Some, None, if◌then◌else◌, option_map, option_and_then, position, Result, Err}
-use Rattle.std.specs.Option.{ok_or}
-use Rattle.journey.specs.declared.fault.QueryFault.{QueryFault}
-use Rattle.journey.specs.declared.fault.QueryFault.TheVariants.{BadClock, OutOfRange}
-use Rattle.plan_base.specs.declared.places.Place.{Place}
-use Rattle.plan_base.specs.Modes.{mode_named}
-use Rattle.plan_base.specs.PlaceOf.{place_of}
-use Rattle.geo_length.specs.Degrees.{degrees_of}
-use Rattle.plain_texts.specs.Numbers.{id_at}
-use Rattle.plain_texts.specs.FixedDecimal.{fixed_at}
-use Rattle.service_days.specs.DaysMeaning.{DaysMeaning}
-use Rattle.service_days.specs.Days.{base_of, day_with_date}
-use Rattle.service_days.specs.Dates.{date_at}
-use Rattle.mode_network.specs.declared.endpoints.Endpoint.{Endpoint}
-use Rattle.mode_network.specs.declared.endpoints.Endpoint.TheVariants.{Road, Stop, Near, NearIn}
+use Rattle.std.specs.Prelude.{ℕ, ◌+◌, ◌*◌, List, [], ◌∷◌, length, take, drop, Bool, ◌==◌, ◌&&◌, nat_lt, nat_eq, nat_le, Option, Some, None, if◌then◌else◌, option_map, option_and_then, position, Result, Err, ok_or}
+pub use Rattle.journey.specs.{declared.fault.QueryFault.QueryFault, declared.fault.QueryFault.TheVariants.BadClock, declared.fault.QueryFault.TheVariants.OutOfRange}
+use Rattle.plan_base.specs.{Place, mode_named, place_of}
+use Rattle.geo_length.specs.{degrees_of}
+use Rattle.plain_texts.specs.{id_at, fixed_at}
+use Rattle.service_days.specs.{DaysMeaning.DaysMeaning, base_of, day_with_date, date_at}
+use Rattle.mode_network.specs.{Endpoint, Near, NearIn, declared.endpoints.Endpoint.TheVariants.Road, declared.endpoints.Endpoint.TheVariants.Stop}
 
 -- what stands before the first such byte of a text, and what stands after it
 abbrev pub at_byte : ℕ → List ℕ → Option (List ℕ × List ℕ)

@@ -1,25 +1,13 @@
 -- The block that is printed for a query line.
-use Rattle.std.specs.Prelude.{◌≡◌, ℕ, ◌<◌, List, length, [], ◌∷◌, ◌++◌, Option, codes, slice_get, unwrap_or, option_map, option_to_list, slice_index_or, true, false}
-use Rattle.std.specs.List.{flat_map}
-use Rattle.std.specs.Fmt.{decimal, signed_decimal}
-use Rattle.plain_texts.specs.Lines.{with_feed}
-use Rattle.plain_texts.specs.FixedDecimal.{fixed_decimal}
-use Rattle.service_days.specs.Clock.{clock_text_of}
-use Rattle.service_days.specs.Days.{date_of, numbers_of}
-use Rattle.timetable_arcs.specs.Trips.{TripLists}
-use Rattle.timetable_arcs.specs.Patterns.{no_trip}
-use Rattle.plan_base.specs.Modes.{number_of_mode}
-use Rattle.plan_base.specs.LetterNames.{letter_names}
-use Rattle.mode_network.specs.declared.nodes.Node.{Node}
-use Rattle.mode_network.specs.declared.nodes.NodeKey.{NodeKey}
-use Rattle.mode_network.specs.declared.nodes.NodeKey.TheVariants.{Road as RoadKey, Stop as StopKey, Switch as SwitchKey}
-use Rattle.mode_network.specs.declared.steps.Step.{Step}
-use Rattle.mode_network.specs.declared.steps.Step.TheVariants.{Wait, Road, Link, Stand, Ride}
-use Rattle.mode_network.specs.NetworkLists.{NetworkLists, nodes_of}
-use Rattle.search_laws.specs.Collapse.{collapse}
-use Rattle.mode_network.specs.Journeys.{Route, IsStep}
-use Rattle.journey.specs.declared.fault.QueryFault.{QueryFault}
-use Rattle.journey.specs.declared.fault.QueryFault.TheVariants.{Shape, BadClock, OutOfRange, UnknownFrom, UnknownTo, TooLong, TooDeep, Syntax, TooLarge, OffNetwork, OutOfMemory}
+use Rattle.std.specs.Prelude.{◌≡◌, ℕ, ◌<◌, List, length, [], ◌∷◌, ◌++◌, Option, codes, slice_get, unwrap_or, option_map, option_to_list, slice_index_or, true, false, flat_map, decimal}
+use Rattle.std.specs.Fmt.{signed_decimal}
+use Rattle.plain_texts.specs.{with_feed, fixed_decimal}
+use Rattle.service_days.specs.{clock_text_of, date_of, numbers_of}
+use Rattle.timetable_arcs.specs.{TripLists, no_trip}
+use Rattle.plan_base.specs.{number_of_mode, letter_names}
+use Rattle.mode_network.specs.{Node, NodeKey, Road as RoadKey, Stop as StopKey, Switch as SwitchKey, Step, Wait, Link, Stand, Ride, nodes_of, Route, IsStep, declared.steps.Step.TheVariants.Road, NetworkLists.NetworkLists}
+use Rattle.search_laws.specs.{collapse}
+use Rattle.journey.specs.{declared.fault.QueryFault.QueryFault, declared.fault.QueryFault.TheVariants.Shape, declared.fault.QueryFault.TheVariants.BadClock, declared.fault.QueryFault.TheVariants.OutOfRange, declared.fault.QueryFault.TheVariants.UnknownFrom, declared.fault.QueryFault.TheVariants.UnknownTo, declared.fault.QueryFault.TheVariants.TooLong, declared.fault.QueryFault.TheVariants.TooDeep, declared.fault.QueryFault.TheVariants.Syntax, declared.fault.QueryFault.TheVariants.TooLarge, declared.fault.QueryFault.TheVariants.OffNetwork, declared.fault.QueryFault.TheVariants.OutOfMemory}
 
 -- the name of a letter
 abbrev pub letter_text : ℕ → List ℕ

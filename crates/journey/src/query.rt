@@ -3,7 +3,6 @@
 ghost use Rattle.std.specs.Prelude.{◌≡◌, ◌<◌, ◌^◌, IfOk, IfErr};
 ghost use Rattle.plain_texts.specs.Lines.{IsLine};
 ghost use Rattle.mode_expression.specs.Form.{form_of, IsUsable};
-ghost use Rattle.journey.specs.inside.Shown.{shape_shown};
 ghost use Rattle.journey.specs.Queries.{IsQuery, IsRefusal};
 
 use crate::endpoints::lack_of;

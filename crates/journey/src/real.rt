@@ -1,6 +1,6 @@
 //! Which journeys are real, where they end, and their words.
 
-ghost use Rattle.std.specs.Prelude.{◌≡◌, ◌<◌, ◌↔◌, All, ℕ, IfOk, IsTrue};
+ghost use Rattle.std.specs.Prelude.{◌<◌, ◌↔◌, All, ℕ, IfOk, IsTrue};
 ghost use Rattle.search_laws.specs.Times.{time_bound};
 ghost use Rattle.journey.specs.Ends.{AreTaken, HasTime, HasTimes};
 ghost use Rattle.journey.specs.Real.{FirstBad, IsReal, IsWalked, EndsAt, HasWord, IsSpelt, AlwaysLeadsTo};

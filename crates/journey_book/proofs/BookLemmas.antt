@@ -1,22 +1,11 @@
 -- The book that a map of names is: what a change of the map does to it, and its names.
-use Rattle.std.proofs.Common.{◌≡◌, ◌∙◌, refl, sym, ap, ap₂, subst, ℕ, Bool, true, false, cond, ◌||◌, List, [], ◌∷◌, Option, None, Some, is_some, option_map}
-use Rattle.std.specs.Prelude.{Vec, map, string_bytes}
-use Rattle.std.specs.Str.{bytes_eq}
-use Rattle.std.specs.List.{list_any}
-use Rattle.std.specs.Map.{update}
-use Rattle.std.specs.declared.string.String.{String}
-use Rattle.std.specs.declared.alloc.Global.{Global}
-use Rattle.std.specs.String.{string_cmp}
-use Rattle.std.specs.BTreeMap.{BTreeMap, IsOrdered, UpdatesBy, get_by_text, keys}
-use Rattle.std.specs.Cmp.Lexicographic.{slice_cmp}
-use Rattle.std.specs.Ordering.{is_eq, nat_cmp}
-use Rattle.std.specs.declared.cmp.Ordering.TheVariants.{Less}
+use Rattle.plan_base.proofs.Common.{◌≡◌, ◌∙◌, refl, sym, ap, ap₂, subst, ℕ, Bool, true, false, cond, ◌||◌, List, [], ◌∷◌, Option, None, Some, is_some, option_map, Vec, map, string_bytes, bytes_eq, list_any, update, String, Global, keys, slice_cmp, is_eq, nat_cmp, Less, AllByRecursion, is_eq-slice_cmp}
 use Rattle.std.specs.List.Sorted.{IsStrictlySortedBy}
-use Rattle.std.specs.List.{AllByRecursion}
+use Rattle.std.proofs.Common.{string_cmp, BTreeMap}
+use Rattle.std.specs.BTreeMap.{IsOrdered, UpdatesBy, get_by_text}
 use Rattle.std.proofs.lemmas.Map.Made.{is_some-lookup}
-use Rattle.std.proofs.lemmas.Map.Text.{btree_map_updates_text, is_eq-slice_cmp}
-use Rattle.journey_book.specs.Books.{AreNamesOf}
-use Rattle.journey_book.specs.Memory.{book_of}
+use Rattle.std.proofs.lemmas.Map.Text.{btree_map_updates_text}
+use Rattle.journey_book.specs.{AreNamesOf, book_of}
 
 abbrev pub Bytes : Type 0
 Bytes = Vec ℕ Global

@@ -1,39 +1,16 @@
 -- A run whose files are there and without fault ends with its work done, unless nothing is kept under the name: each other outcome
 -- has a cause that is not there.
-use Rattle.std.proofs.Common.{◌≡◌, ℕ, inl, inr, List, Option, Some, subst, sym}
-use Rattle.std.specs.Prelude.{IsSome}
-use Rattle.plan_base.specs.Counts.{Rose}
-use Rattle.plan_base.specs.Shelves.{ShelfMeaning}
-use Rattle.plan_base.specs.Sinks.{Stays}
-use Rattle.plan_base.specs.declared.limits.Caps.{Caps}
+use Rattle.plan_base.proofs.Common.{◌≡◌, ℕ, inl, inr, List, Option, Some, subst, sym, IsSome}
+use Rattle.plan_base.specs.{Rose, ShelfMeaning, Stays, Caps}
 use Rattle.mode_network.specs.NetworkLists.{NetworkLists}
-use Rattle.hierarchy.specs.Lists.{HierarchyLists}
-use Rattle.hierarchy_commands.specs.Commands.{OnHierarchyIfNamed}
+use Rattle.hierarchy.specs.{HierarchyLists}
+use Rattle.hierarchy_commands.specs.{OnHierarchyIfNamed}
 use Rattle.hierarchy_commands.proofs.CompleteLemmas.{named_completes}
-use Rattle.run_steps.specs.declared.outcome.Outcome.{Outcome}
-use Rattle.run_steps.specs.declared.outcome.Outcome.TheVariants.{Done, WriteFault, OutOfMemory}
-use Rattle.run_steps.specs.Certificates.{SaysVerified}
-use Rattle.run_steps.specs.Complete.{Files, Completes, IsDoneOrMemory}
-use Rattle.run_steps.specs.Regions.{OnRegion}
-use Rattle.run_steps.specs.Scene.{Scene, scene as shown, with_shelf}
-use Rattle.run_steps.specs.Sayings.{WritesText}
-use Rattle.run_steps.proofs.CertificateOutcomes.{certificate_fails}
-use Rattle.run_steps.proofs.CompleteSteps.{file_completes, network_completes, writes_completes}
-use Rattle.answer_commands.specs.Complete.{CanVerify}
-use Rattle.answer_commands.specs.Outputs.{best_certificates}
-use Rattle.answer_commands.specs.Working.{HasBoth, IsBothOutcome}
-use Rattle.answer_commands.proofs.BothLemmas.{both_fail, on_both}
-use Rattle.answer_commands.proofs.CompleteLemmas.{verify_completes}
-use Rattle.journey_book.specs.Books.{Book, dropped, kept}
-use Rattle.journey_book.specs.Commands.{book_says}
-use Rattle.journey_book.specs.Complete.{AreHeld, CanBeDoneByBook, IsDoneOrAbsent}
-use Rattle.journey_book.specs.Keepers.{KeeperMeaning, Tells}
-use Rattle.journey_book.specs.Reports.{IsListing, IsReported}
-use Rattle.journey_book.specs.Rules.{report_rule}
-use Rattle.journey_book.specs.Requests.{BookRequest, keep, drop, list, show, report}
-use Rattle.journey_book.specs.Sayings.{Changes, EndsBy, IsCertificateOutcome, OnBoth, ThenDone, BookWrites}
-use Rattle.journey_book.specs.declared.outcome.BookOutcome.{BookOutcome}
-use Rattle.journey_book.specs.declared.outcome.BookOutcome.TheVariants.{Common, KeepFault, Absent, NotWell}
+use Rattle.run_steps.specs.{Outcome, Done, WriteFault, OutOfMemory, SaysVerified, Files, Completes, IsDoneOrMemory, OnRegion, scene as shown, with_shelf, WritesText, Scene.Scene}
+use Rattle.run_steps.proofs.{CertificateOutcomes.certificate_fails, CompleteSteps.file_completes, CompleteSteps.network_completes, CompleteSteps.writes_completes}
+use Rattle.answer_commands.specs.{CanVerify, best_certificates, HasBoth, IsBothOutcome}
+use Rattle.answer_commands.proofs.{BothLemmas.both_fail, BothLemmas.on_both, CompleteLemmas.verify_completes}
+use Rattle.journey_book.specs.{Book, dropped, kept, book_says, AreHeld, CanBeDoneByBook, IsDoneOrAbsent, KeeperMeaning, Tells, IsListing, IsReported, report_rule, BookRequest, keep, drop, list, show, report, Changes, EndsBy, IsCertificateOutcome, OnBoth, ThenDone, BookWrites, BookOutcome, Common, Absent, NotWell, declared.outcome.BookOutcome.TheVariants.KeepFault}
 
 -- no count of faults rose
 pub record IsQuiet (old new : Scene KeeperMeaning) : Type 0 where

@@ -1,28 +1,13 @@
 -- Runs one after the other leave the book that their changes make of the first.
-use Rattle.std.proofs.Common.{◌≡◌, ◌∙◌, refl, ap, subst, sym, ℕ, ◌⊎◌, inl, inr, cond, List, [], ◌∷◌, Option, None, Some}
-use Rattle.std.specs.Prelude.{IsSome}
-use Rattle.std.specs.Str.{bytes_eq}
-use Rattle.plan_base.specs.Shelves.{ShelfMeaning, IsLater, Told}
-use Rattle.plan_base.specs.declared.limits.Caps.{Caps}
+use Rattle.plan_base.proofs.Common.{◌≡◌, ◌∙◌, refl, ap, subst, sym, ℕ, ◌⊎◌, inl, inr, cond, List, [], ◌∷◌, Option, None, Some, IsSome, bytes_eq}
+use Rattle.plan_base.specs.{ShelfMeaning, IsLater, Told, Caps}
 use Rattle.mode_network.specs.NetworkLists.{NetworkLists}
-use Rattle.hierarchy.specs.Lists.{HierarchyLists}
-use Rattle.hierarchy_commands.specs.Working.{IsFoundSound, IsNamedOutcome}
-use Rattle.run_steps.specs.declared.outcome.Outcome.{Outcome}
-use Rattle.run_steps.specs.declared.outcome.Outcome.TheVariants.{Done, Usage, WriteFault, OutOfMemory}
-use Rattle.run_steps.specs.Scene.{Scene, with_shelf}
+use Rattle.hierarchy.specs.{HierarchyLists}
+use Rattle.hierarchy_commands.specs.{IsFoundSound, IsNamedOutcome}
+use Rattle.run_steps.specs.{Outcome, Done, Usage, WriteFault, OutOfMemory, with_shelf, Scene.Scene}
 use Rattle.run_steps.proofs.Steps.{later_twice, not_earlier, told_before}
-use Rattle.answer_commands.specs.Working.{HasBoth, IsBothOutcome}
-use Rattle.journey_book.specs.Books.{Book, dropped, kept}
-use Rattle.journey_book.specs.Keepers.{KeeperMeaning, Becomes, BookStays, Tells}
-use Rattle.journey_book.specs.Commands.{book_says}
-use Rattle.journey_book.specs.Outcomes.{IsBookOutcome}
-use Rattle.journey_book.specs.Reports.{IsListing, IsReported}
-use Rattle.journey_book.specs.Rules.{report_rule}
-use Rattle.journey_book.specs.Requests.{AsksOfBook, BookRequest, keep, drop, list, show, report}
-use Rattle.journey_book.specs.Runs.{Change, Does, Run, RunsFold, book_after, changed, keeps, drops, nothing}
-use Rattle.journey_book.specs.Sayings.{Changes, EndsBy, IsCertificateOutcome, OnBoth, ThenDone, BookWrites}
-use Rattle.journey_book.specs.declared.outcome.BookOutcome.{BookOutcome}
-use Rattle.journey_book.specs.declared.outcome.BookOutcome.TheVariants.{Common, KeepFault, NotWell}
+use Rattle.answer_commands.specs.{HasBoth, IsBothOutcome}
+use Rattle.journey_book.specs.{Book, dropped, kept, KeeperMeaning, Becomes, BookStays, Tells, book_says, IsBookOutcome, IsListing, IsReported, report_rule, AsksOfBook, BookRequest, keep, drop, list, show, report, Change, Does, Run, RunsFold, book_after, changed, keeps, drops, nothing, Changes, EndsBy, IsCertificateOutcome, OnBoth, ThenDone, BookWrites, BookOutcome, Common, NotWell, declared.outcome.BookOutcome.TheVariants.KeepFault}
 
 -- ---- books that are alike name by name
 

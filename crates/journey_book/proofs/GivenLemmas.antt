@@ -1,12 +1,7 @@
 -- What the words behind a command say, word by word; and that they are few.
-use Rattle.std.proofs.Common.{◌≡◌, ◌∙◌, ℕ, ◌+◌, ◌-◌, ◌<◌, ◌≤◌, Bool, true, false, cond, List, [], ◌∷◌, length, take, drop, get_or, map, string_bytes, Option, Some, None, is_some, refl, ap, sym, subst, arith, Global}
-use Rattle.std.specs.Prelude.{IfSome, codes, nat_lt, option_and_then}
-use Rattle.std.specs.Str.{bytes_eq}
-use Rattle.std.specs.declared.string.String.{String}
-use Rattle.std.proofs.lemmas.List.{take_all}
-use Rattle.std.proofs.lemmas.Slice.Eq.{bytes_eq-Decides}
+use Rattle.plan_base.proofs.Common.{◌≡◌, ◌∙◌, ℕ, ◌+◌, ◌-◌, ◌<◌, ◌≤◌, Bool, true, false, cond, List, [], ◌∷◌, length, take, drop, get_or, map, string_bytes, Option, Some, None, is_some, refl, ap, sym, subst, arith, IfSome, codes, nat_lt, option_and_then, bytes_eq, String, take_all, bytes_eq-Decides, Global}
 use borrow.Author.Tests.{ltb-true}
-use Rattle.journey_book.specs.Given.{Given, is_option, given_by, nothing_given, with_fail, with_hierarchy, with_plain, with_word}
+use Rattle.journey_book.specs.{Given.Given, is_option, given_by, nothing_given, with_fail, with_hierarchy, with_plain, with_word}
 
 abbrev weight : Bool → ℕ → ℕ
 weight true count = count

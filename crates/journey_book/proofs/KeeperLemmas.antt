@@ -1,8 +1,6 @@
 -- What a keeper keeps while its book stays.
-use Rattle.std.proofs.Common.{◌≡◌, ◌∙◌, refl, sym, subst, ℕ, List, Option, Some, None}
-use Rattle.std.specs.Prelude.{IfSome}
-use Rattle.journey_book.specs.Books.{Book}
-use Rattle.journey_book.specs.Keepers.{KeeperMeaning, Becomes, BookStays, Tells}
+use Rattle.plan_base.proofs.Common.{◌≡◌, ◌∙◌, refl, sym, subst, ℕ, List, Option, Some, None, IfSome}
+use Rattle.journey_book.specs.{Book, KeeperMeaning, Becomes, BookStays, Tells}
 
 pub stays_so : (keeper : KeeperMeaning) → BookStays keeper keeper
 stays_so keeper book told = (book, told, λ name. refl)

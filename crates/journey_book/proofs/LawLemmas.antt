@@ -1,43 +1,20 @@
 -- What is reported of a book is one text, and a certificate that is valid is `same`.
-use Rattle.std.proofs.Common.{◌≡◌, ◌∙◌, refl, sym, ap, ap₂, subst, ℕ, ◌≤◌, ◌||◌, inl, inr, Bool, List, [], ◌∷◌, ◌++◌, Option, None, Some, arith, eq-eqb}
-use Rattle.std.specs.Prelude.{Err, Ok, IfSome, codes, decimal}
-use Rattle.std.specs.Str.{bytes_eq}
-use Rattle.std.specs.List.{list_all, list_any}
-use Rattle.std.specs.BTreeSet.{BTreeSet}
-use Rattle.std.specs.Cmp.Lexicographic.{slice_cmp, nat_list_cmp_total}
-use Rattle.std.specs.Ordering.{is_eq, nat_cmp}
-use Rattle.std.proofs.lemmas.Map.Lookups.{btree_set_from_contains, exact_bytes}
-use Rattle.std.proofs.lemmas.Map.Text.{is_eq-slice_cmp}
-use Rattle.plain_texts.specs.Lines.{with_feed}
+use Rattle.plan_base.proofs.Common.{◌≡◌, ◌∙◌, refl, sym, ap, ap₂, subst, ℕ, ◌≤◌, ◌||◌, inl, inr, Bool, List, [], ◌∷◌, ◌++◌, Option, None, Some, arith, eq-eqb, Err, Ok, IfSome, codes, decimal, bytes_eq, list_all, list_any, BTreeSet, slice_cmp, nat_list_cmp_total, is_eq, nat_cmp, exact_bytes, is_eq-slice_cmp}
+use Rattle.std.proofs.lemmas.Map.Lookups.{btree_set_from_contains}
+use Rattle.plain_texts.specs.{with_feed}
 use Rattle.search_laws.proofs.WalkLemmas.{walk_rises}
-use Rattle.mode_network.specs.NetworkLists.{NetworkLists}
-use Rattle.mode_network.specs.Rules.{IsNetwork}
-use Rattle.mode_network.specs.Journeys.{Route, IsJourney}
-use Rattle.plain_graph.specs.PlainArcs.{plain_meaning}
-use Rattle.plain_graph.specs.Lawful.{plain_lawful}
+use Rattle.mode_network.specs.{NetworkLists.NetworkLists, IsNetwork, Route, IsJourney}
+use Rattle.plain_graph.specs.{plain_meaning, plain_lawful}
 use Rattle.plain_graph.proofs.Same.{journeys_are_walks}
-use Rattle.hierarchy.specs.Lists.{HierarchyLists}
-use Rattle.phase_graph.specs.InUse.{IsInUse, IsPlain, IsSoundIfGiven}
-use Rattle.search_laws.specs.GraphLaws.{GraphMeaning}
-use Rattle.certificate.specs.declared.verdict.CertFault.TheVariants.{BadLine}
-use Rattle.journey.specs.Best.{Asked}
-use Rattle.journey.specs.Texts.{refusal_text}
+use Rattle.hierarchy.specs.{HierarchyLists}
+use Rattle.phase_graph.specs.{IsInUse, IsPlain, IsSoundIfGiven}
+use Rattle.search_laws.specs.{GraphMeaning}
+use Rattle.certificate.specs.{BadLine, Claim, IsCertText, HasCause, IsBestResult}
+use Rattle.journey.specs.{Asked, refusal_text}
 use Rattle.journey.proofs.ReadingLemmas.{reading_is_unique}
-use Rattle.certificate.specs.Certificates.{Claim}
-use Rattle.certificate.specs.Texts.{IsCertText}
-use Rattle.certificate.specs.Reading.{HasCause}
-use Rattle.certificate.specs.Valid.{IsBestResult}
-use Rattle.certificate.proofs.ReadLaws.{again, bad_line_is}
-use Rattle.certificate.proofs.UniqueLemmas.{verdict_is_unique}
-use Rattle.certificate.proofs.VerifyLemmas.{valid_proves}
+use Rattle.certificate.proofs.{ReadLaws.again, ReadLaws.bad_line_is, UniqueLemmas.verdict_is_unique, VerifyLemmas.valid_proves}
 use Rattle.answer_commands.proofs.CompleteLemmas.{same_claim}
-use Rattle.journey_book.specs.Books.{Book, AreNamesOf}
-use Rattle.journey_book.specs.Keepers.{KeeperMeaning, Tells}
-use Rattle.journey_book.specs.Laws.{HoldsOfOneText, IsFixedEnd, ReportsAreFixed, StartsAt, ValidIsSame}
-use Rattle.journey_book.specs.Reports.{AreReported, ClaimRule, IsJudged, IsReported, IsSaidOn, ReportRule, end_by, verdict_words}
-use Rattle.journey_book.specs.Reviews.{IsAnswered, IsReviewed, arrival_words, beside, kept_arrival}
-use Rattle.journey_book.specs.Rules.{report_rule}
-use Rattle.journey_book.specs.declared.words.ReportKind.TheVariants.{Recheck, Review}
+use Rattle.journey_book.specs.{Book, AreNamesOf, KeeperMeaning, Tells, HoldsOfOneText, IsFixedEnd, ReportsAreFixed, StartsAt, ValidIsSame, AreReported, ClaimRule, IsJudged, IsReported, IsSaidOn, ReportRule, end_by, verdict_words, IsAnswered, IsReviewed, arrival_words, beside, kept_arrival, report_rule, Recheck, Review}
 
 -- ---- the names of a book
 

@@ -1,10 +1,6 @@
 -- A name that is none of the commands' asks for nothing.
-use Rattle.std.proofs.Common.{◌≡◌, ℕ, Bool, true, false, cond, List, [], ◌∷◌, Option, Some, None, refl, sym}
-use Rattle.std.specs.Prelude.{⊤, find, option_and_then}
-use Rattle.std.specs.Str.{bytes_eq}
-use Rattle.std.proofs.lemmas.Slice.Eq.{bytes_eq-Decides}
-use Rattle.journey_book.specs.Given.{Given}
-use Rattle.journey_book.specs.Requests.{BookRequest}
+use Rattle.plan_base.proofs.Common.{◌≡◌, ℕ, Bool, true, false, cond, List, [], ◌∷◌, Option, Some, None, refl, sym, ⊤, find, option_and_then, bytes_eq, bytes_eq-Decides}
+use Rattle.journey_book.specs.{Given.Given, BookRequest}
 
 -- what a command asks for
 abbrev pub Asking : Type 0

@@ -1,12 +1,8 @@
 -- Words that are right, and a report with one line more.
-use Rattle.std.proofs.Common.{◌≡◌, ◌∙◌, refl, sym, ap, subst, ℕ, Bool, true, false, List, [], ◌∷◌, ◌++◌, append_assoc, append-nil}
-use Rattle.std.specs.Prelude.{⊤, ◌&&◌, Result, Ok, Err, OnOk, codes}
-use Rattle.std.specs.List.{list_all}
-use Rattle.std.proofs.lemmas.List.Folds.{list_all-append}
-use Rattle.plain_texts.specs.Lines.{lines_text, with_feed}
-use Rattle.journey.specs.Blocks.{AddsText}
-use Rattle.journey_book.specs.Keepers.{BookStays, KeeperMeaning}
-use Rattle.journey_book.specs.Reports.{AreReported, ClaimRule, HasReported, IsSaidOf, ReportRule}
+use Rattle.plan_base.proofs.Common.{◌≡◌, ◌∙◌, refl, sym, ap, subst, ℕ, Bool, true, false, List, [], ◌∷◌, ◌++◌, append_assoc, append-nil, ⊤, ◌&&◌, Result, Ok, Err, OnOk, codes, list_all, list_all-append}
+use Rattle.plain_texts.specs.{lines_text, with_feed}
+use Rattle.journey.specs.{AddsText}
+use Rattle.journey_book.specs.{BookStays, KeeperMeaning, AreReported, ClaimRule, HasReported, IsSaidOf, ReportRule}
 use Rattle.journey_book.proofs.KeeperLemmas.{told_before}
 
 -- what a call that may fail adds to a text

@@ -1,20 +1,9 @@
 -- What the steps of a run answer, put together to what the run says.
-use Rattle.std.proofs.Common.{ℕ, Bool, true, false, List, take, Option, Some, None, Ok, Err, refl}
-use Rattle.std.specs.Prelude.{Result, ⊤, IfErr, IfSome, OnOk}
-use Rattle.plan_base.specs.Sinks.{Appended}
-use Rattle.run_steps.specs.declared.outcome.Outcome.{Outcome}
-use Rattle.run_steps.specs.declared.outcome.Outcome.TheVariants.{Done, WriteFault}
-use Rattle.run_steps.specs.Scene.{Scene}
-use Rattle.run_steps.specs.Working.{IsTextOutcome}
-use Rattle.journey_book.specs.Books.{Book}
-use Rattle.journey_book.specs.Keepers.{KeeperMeaning, IsKeepFault, BookStays, Tells}
-use Rattle.journey_book.specs.Reports.{IsReport, IsReported, ReportRule, end_by}
-use Rattle.journey_book.specs.Sayings.{IsUntouched, Changes, ThenDone, BookWrites}
-use Rattle.journey_book.specs.Working.{ended_by, outcome_of_keeper}
-use Rattle.journey_book.specs.declared.keeper.KeepFault.{KeepFault as KeepCause}
+use Rattle.plan_base.proofs.Common.{ℕ, Bool, true, false, List, take, Option, Some, None, Ok, Err, refl, Result, ⊤, IfErr, IfSome, OnOk}
+use Rattle.plan_base.specs.{Appended}
+use Rattle.run_steps.specs.{Outcome, Done, WriteFault, IsTextOutcome, Scene.Scene}
+use Rattle.journey_book.specs.{Book, KeeperMeaning, IsKeepFault, BookStays, Tells, IsReport, IsReported, ReportRule, end_by, IsUntouched, Changes, ThenDone, BookWrites, ended_by, outcome_of_keeper, KeepFault as KeepCause, BookOutcome, Common}
 use Rattle.journey_book.specs.declared.keeper.KeepFault.TheVariants as keep_cause
-use Rattle.journey_book.specs.declared.outcome.BookOutcome.{BookOutcome}
-use Rattle.journey_book.specs.declared.outcome.BookOutcome.TheVariants.{Common}
 
 module _ (old new : Scene KeeperMeaning) (same : IsUntouched old new) where
   -- the keeper refused a change

@@ -1,10 +1,6 @@
 -- The words of a command line, as a slice's pattern tells them.
-use Rattle.std.proofs.Common.{◌≡◌, ◌∙◌, ℕ, ◌-◌, ◌<◌, ◌≤◌, List, [], ◌∷◌, length, take, drop, get_or, map, string_bytes, None, Some, refl, ap, sym, arith, Global}
-use Rattle.std.specs.Prelude.{option_and_then}
-use Rattle.std.specs.declared.string.String.{String}
-use Rattle.std.proofs.lemmas.List.{take_all}
-use Rattle.journey_book.specs.Given.{given_by}
-use Rattle.journey_book.specs.Requests.{AreRefusedByBook, AsksOfBook, BookRequest, request_by, request_in_words}
+use Rattle.plan_base.proofs.Common.{◌≡◌, ◌∙◌, ℕ, ◌-◌, ◌<◌, ◌≤◌, List, [], ◌∷◌, length, take, drop, get_or, map, string_bytes, None, Some, refl, ap, sym, arith, option_and_then, String, take_all, Global}
+use Rattle.journey_book.specs.{given_by, AsksOfBook, BookRequest, request_by, request_in_words}
 
 -- a command's name and the words behind it
 pub words_asked : (words : List (String Global)) (name : String Global) → 3 ≤ length words → name ≡ get_or words 2 name

@@ -1,6 +1,5 @@
 -- A book: what is kept under each name.
-use Rattle.std.specs.Prelude.{◌≡◌, ℕ, List, Option, None, Some, is_some}
-use Rattle.std.specs.Str.{bytes_eq}
+use Rattle.std.specs.Prelude.{◌≡◌, ℕ, List, Option, None, Some, is_some, bytes_eq}
 use Rattle.std.specs.List.{list_any}
 use Rattle.std.specs.List.Sorted.{IsStrictlySortedBy}
 use Rattle.std.specs.Map.{update}

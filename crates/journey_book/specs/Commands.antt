@@ -1,13 +1,7 @@
 -- What each command says of a run by its outcome.
 use Rattle.std.specs.Prelude.{◌≡◌, ℕ, ◌⊎◌, List, None, Some, IsSome}
-use Rattle.plan_base.specs.declared.limits.Caps.{Caps}
-use Rattle.journey_book.specs.Books.{dropped, kept}
-use Rattle.journey_book.specs.Keepers.{Tells}
-use Rattle.journey_book.specs.Reports.{IsListing, IsReported}
-use Rattle.journey_book.specs.Rules.{report_rule}
-use Rattle.journey_book.specs.Requests.{BookRequest, keep, drop, list, show, report}
-use Rattle.journey_book.specs.Sayings.{BookSaying, BookEnds, OnBoth, OnValid, Changes, ThenDone, BookWrites}
-use Rattle.journey_book.specs.declared.outcome.BookOutcome.TheVariants.{Absent}
+use Rattle.plan_base.specs.{Caps}
+use Rattle.journey_book.specs.{Books.dropped, Books.kept, Keepers.Tells, Reports.IsListing, Reports.IsReported, Rules.report_rule, Requests.BookRequest, Requests.keep, Requests.drop, Requests.list, Requests.show, Requests.report, Sayings.BookSaying, Sayings.BookEnds, Sayings.OnBoth, Sayings.OnValid, Sayings.Changes, Sayings.ThenDone, Sayings.BookWrites, declared.outcome.BookOutcome.TheVariants.Absent}
 
 -- nothing is kept under the name, if the keeper tells
 abbrev pub IsNotKept : List ℕ → BookSaying

@@ -1,12 +1,10 @@
 -- What can be done: the files that a request names are there and without fault.
 use Rattle.std.specs.Prelude.{ℕ, List, Option}
-use Rattle.plan_base.specs.declared.limits.Caps.{Caps}
-use Rattle.hierarchy_commands.specs.Complete.{IsSoundIfNamed}
-use Rattle.run_steps.specs.Complete.{Files, IsDoneOrMemory, IsRegionHeld}
-use Rattle.answer_commands.specs.Complete.{CanVerify}
-use Rattle.journey_book.specs.Requests.{BookRequest, keep, drop, list, show, report}
-use Rattle.journey_book.specs.declared.outcome.BookOutcome.{BookOutcome}
-use Rattle.journey_book.specs.declared.outcome.BookOutcome.TheVariants.{Common, KeepFault, Absent, NotWell}
+use Rattle.plan_base.specs.{Caps}
+use Rattle.hierarchy_commands.specs.{IsSoundIfNamed}
+use Rattle.run_steps.specs.{Files, IsDoneOrMemory, IsRegionHeld}
+use Rattle.answer_commands.specs.{CanVerify}
+use Rattle.journey_book.specs.{Requests.BookRequest, Requests.keep, Requests.drop, Requests.list, Requests.show, Requests.report, declared.outcome.BookOutcome.BookOutcome, declared.outcome.BookOutcome.TheVariants.Common, declared.outcome.BookOutcome.TheVariants.KeepFault, declared.outcome.BookOutcome.TheVariants.Absent, declared.outcome.BookOutcome.TheVariants.NotWell}
 
 -- a region is there, and a hierarchy that is sound for it, if one is named
 abbrev pub AreHeld : Caps → Files → List ℕ → Option (List ℕ) → Type 0

@@ -1,8 +1,6 @@
 -- What the words behind a command say: plain ones, in order, and among them the options, each at most once.
-use Rattle.std.specs.Prelude.{ℕ, ◌||◌, nat_lt, Bool, true, false, List, [], ◌∷◌, length, codes, Option, Some, None, is_some, option_and_then, option_map, if◌then◌else◌}
-use Rattle.std.specs.Str.{bytes_eq}
-use Rattle.journey_book.specs.declared.given.GivenWords.{GivenWords}
-use Rattle.journey_book.specs.declared.given.Plain.{Plain}
+use Rattle.std.specs.Prelude.{ℕ, ◌||◌, nat_lt, Bool, true, false, List, [], ◌∷◌, length, codes, Option, Some, None, is_some, option_and_then, option_map, if◌then◌else◌, bytes_eq}
+pub use Rattle.journey_book.specs.{declared.given.GivenWords.GivenWords, declared.given.Plain.Plain}
 use Rattle.journey_book.specs.declared.given.Plain.TheVariants as plain
 
 -- plain words, the file that `--hierarchy` names, and whether `--fail` stands there

@@ -1,9 +1,8 @@
 -- What a keeper is: what it keeps, as far as it tells it, and how often it failed.
 use Rattle.std.specs.Prelude.{◌≡◌, ℕ, List, Option, Some, IfSome}
-use Rattle.plan_base.specs.Counts.{Rose}
+use Rattle.plan_base.specs.{Rose}
 use Rattle.journey_book.specs.Books.{Book}
-use Rattle.journey_book.specs.declared.keeper.KeepFault.{KeepFault}
-use Rattle.journey_book.specs.declared.keeper.KeepFault.TheVariants.{Failed, OutOfMemory}
+pub use Rattle.journey_book.specs.{declared.keeper.KeepFault.KeepFault, declared.keeper.KeepFault.TheVariants.Failed, declared.keeper.KeepFault.TheVariants.OutOfMemory}
 
 -- what a keeper keeps, where it tells; and how often it failed
 pub record KeeperMeaning : Type 0 where

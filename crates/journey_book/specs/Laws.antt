@@ -1,19 +1,10 @@
 -- Laws of reports.
 use Rattle.std.specs.Prelude.{◌≡◌, ℕ, Bool, List, codes, Option, None, Some}
-use Rattle.mode_network.specs.NetworkLists.{NetworkLists}
-use Rattle.mode_network.specs.Rules.{IsNetwork}
-use Rattle.mode_network.specs.Journeys.{Route}
-use Rattle.hierarchy.specs.Lists.{HierarchyLists}
-use Rattle.phase_graph.specs.InUse.{IsSoundIfGiven}
-use Rattle.certificate.specs.Certificates.{Claim}
-use Rattle.certificate.specs.Valid.{IsValid}
-use Rattle.journey_book.specs.Books.{Book}
-use Rattle.journey_book.specs.Keepers.{KeeperMeaning}
-use Rattle.journey_book.specs.Reports.{IsReported}
-use Rattle.journey_book.specs.Reviews.{IsReviewed}
-use Rattle.journey_book.specs.Rules.{report_rule}
-use Rattle.journey_book.specs.declared.words.ReportKind.{ReportKind}
-use Rattle.journey_book.specs.declared.outcome.BookOutcome.{BookOutcome}
+use Rattle.mode_network.specs.{NetworkLists.NetworkLists, IsNetwork, Route}
+use Rattle.hierarchy.specs.{HierarchyLists}
+use Rattle.phase_graph.specs.{IsSoundIfGiven}
+use Rattle.certificate.specs.{Claim, IsValid}
+use Rattle.journey_book.specs.{Books.Book, Keepers.KeeperMeaning, Reports.IsReported, Reviews.IsReviewed, Rules.report_rule, declared.words.ReportKind.ReportKind, declared.outcome.BookOutcome.BookOutcome}
 
 -- one text alone is so
 abbrev pub HoldsOfOneText : (List ℕ → Type 0) → Type 0

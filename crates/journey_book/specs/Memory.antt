@@ -4,12 +4,9 @@ use Rattle.std.specs.List.{list_any}
 use Rattle.std.specs.declared.string.String.{String}
 use Rattle.std.specs.declared.alloc.Global.{Global}
 use Rattle.std.specs.BTreeMap.{BTreeMap, get_by_text}
-use Rattle.plan_base.specs.MemoryAnswers.{count_after}
-use Rattle.journey_book.specs.Books.{Book}
-use Rattle.journey_book.specs.Keepers.{KeeperMeaning}
-use Rattle.journey_book.specs.declared.keeper.KeepFault.{KeepFault}
-use Rattle.journey_book.specs.declared.keeper.KeepFault.TheVariants.{Failed, OutOfMemory}
-use Rattle.journey_book.specs.declared.memory_keeper.MemoryKeeper.{MemoryKeeper}
+use Rattle.plan_base.specs.{count_after}
+use Rattle.journey_book.specs.{Books.Book, Keepers.KeeperMeaning, declared.keeper.KeepFault.KeepFault, declared.keeper.KeepFault.TheVariants.Failed, declared.keeper.KeepFault.TheVariants.OutOfMemory}
+pub use Rattle.journey_book.specs.declared.memory_keeper.MemoryKeeper.{MemoryKeeper}
 
 -- the book that a map of names is
 abbrev pub book_of : BTreeMap (String Global) (Vec ℕ Global) → Book

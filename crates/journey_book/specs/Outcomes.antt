@@ -1,17 +1,8 @@
 -- What a run says by its outcome.
 use Rattle.std.specs.Prelude.{◌≡◌, ℕ, ◌⊎◌, List, Some}
-use Rattle.plan_base.specs.Counts.{Rose}
-use Rattle.plan_base.specs.declared.limits.Caps.{Caps}
-use Rattle.journey_book.specs.Commands.{book_says}
-use Rattle.run_steps.specs.Complete.{Files}
-use Rattle.run_steps.specs.Scene.{Scene}
-use Rattle.run_steps.specs.declared.outcome.Outcome.TheVariants.{Usage}
-use Rattle.journey_book.specs.Complete.{CanBeDoneByBook, IsDoneOrAbsent}
-use Rattle.journey_book.specs.Keepers.{KeeperMeaning}
-use Rattle.journey_book.specs.Requests.{AreRefusedByBook, AsksOfBook, BookRequest}
-use Rattle.journey_book.specs.Sayings.{BookEnds}
-use Rattle.journey_book.specs.declared.outcome.BookOutcome.{BookOutcome}
-use Rattle.journey_book.specs.declared.outcome.BookOutcome.TheVariants.{Common}
+use Rattle.plan_base.specs.{Rose, Caps}
+use Rattle.journey_book.specs.{Commands.book_says, Complete.CanBeDoneByBook, Complete.IsDoneOrAbsent, Keepers.KeeperMeaning, Requests.AreRefusedByBook, Requests.AsksOfBook, Requests.BookRequest, Sayings.BookEnds, declared.outcome.BookOutcome.BookOutcome, declared.outcome.BookOutcome.TheVariants.Common}
+use Rattle.run_steps.specs.{Files, Usage, Scene.Scene}
 
 -- What a run with these words says: that they are refused, where they ask for nothing; or what it says that was asked for.
 abbrev pub IsBookOutcome : Caps → List (List ℕ) → Scene KeeperMeaning → Scene KeeperMeaning → BookOutcome → Type 0

@@ -1,22 +1,12 @@
 -- What is written of a book: its names, and what a region makes of what it keeps.
-use Rattle.std.specs.Prelude.{◌≡◌, ℕ, ◌⊎◌, ◌&&◌, Bool, not, List, [], ◌∷◌, ◌++◌, codes, decimal, Option, None, Some, if◌then◌else◌}
+use Rattle.std.specs.Prelude.{◌≡◌, ℕ, ◌⊎◌, ◌&&◌, Bool, not, List, [], ◌∷◌, ◌++◌, codes, decimal, Option, None, Some, if◌then◌else◌, bytes_eq}
 use Rattle.std.specs.List.{list_all}
-use Rattle.std.specs.Str.{bytes_eq}
-use Rattle.plain_texts.specs.Lines.{lines_text, with_feed}
+use Rattle.plain_texts.specs.{lines_text, with_feed}
 use Rattle.mode_network.specs.NetworkLists.{NetworkLists}
-use Rattle.hierarchy.specs.Lists.{HierarchyLists}
-use Rattle.certificate.specs.declared.verdict.CertFault.TheVariants.{BadLine}
-use Rattle.certificate.specs.declared.verdict.CertVerdict.{CertVerdict}
-use Rattle.certificate.specs.declared.verdict.CertVerdict.TheVariants.{Valid, Invalid}
-use Rattle.certificate.specs.Certificates.{Claim}
-use Rattle.certificate.specs.Texts.{IsCertText}
-use Rattle.certificate.specs.Reading.{HasCause}
-use Rattle.certificate.specs.Verdicts.{IsCertVerdict}
-use Rattle.run_steps.specs.declared.outcome.Outcome.TheVariants.{Done}
-use Rattle.journey_book.specs.Books.{AreNamesOf}
-use Rattle.journey_book.specs.Keepers.{KeeperMeaning, Tells}
-use Rattle.journey_book.specs.declared.outcome.BookOutcome.{BookOutcome}
-use Rattle.journey_book.specs.declared.outcome.BookOutcome.TheVariants.{Common, NotWell}
+use Rattle.hierarchy.specs.{HierarchyLists}
+use Rattle.certificate.specs.{BadLine, CertVerdict, Invalid, Claim, IsCertText, HasCause, IsCertVerdict, declared.verdict.CertVerdict.TheVariants.Valid}
+use Rattle.run_steps.specs.{Done}
+use Rattle.journey_book.specs.{Books.AreNamesOf, Keepers.KeeperMeaning, Keepers.Tells, declared.outcome.BookOutcome.BookOutcome, declared.outcome.BookOutcome.TheVariants.Common, declared.outcome.BookOutcome.TheVariants.NotWell}
 
 -- the names of the book, each on a line
 abbrev pub IsListing : KeeperMeaning → List ℕ → Type 0

@@ -1,14 +1,9 @@
 -- What a command line of the book asks for, and which words ask for it.
-use Rattle.std.specs.Prelude.{◌≡◌, ℕ, ◌&&◌, ◌||◌, nat_le, nat_eq, Bool, false, List, [], ◌∷◌, length, codes, find, Option, Some, None, option_and_then, option_map, if◌then◌else◌}
+use Rattle.std.specs.Prelude.{◌≡◌, ℕ, ◌&&◌, ◌||◌, nat_le, nat_eq, Bool, false, List, [], ◌∷◌, length, codes, find, Option, Some, None, option_and_then, option_map, if◌then◌else◌, bytes_eq}
 use Rattle.std.specs.List.{list_all}
-use Rattle.std.specs.Str.{bytes_eq}
 use Rattle.journey_book.specs.Given.{Given, given_by}
-use Rattle.journey_book.specs.declared.words.BookCommand.{BookCommand}
+pub use Rattle.journey_book.specs.{declared.words.BookCommand.BookCommand, declared.words.Keeping.Keeping, declared.words.ReportAsked.ReportAsked, declared.words.ReportKind.ReportKind, declared.words.ReportKind.TheVariants.Recheck, declared.words.ReportKind.TheVariants.Review}
 use Rattle.journey_book.specs.declared.words.BookCommand.TheVariants as command
-use Rattle.journey_book.specs.declared.words.Keeping.{Keeping}
-use Rattle.journey_book.specs.declared.words.ReportAsked.{ReportAsked}
-use Rattle.journey_book.specs.declared.words.ReportKind.{ReportKind}
-use Rattle.journey_book.specs.declared.words.ReportKind.TheVariants.{Recheck, Review}
 
 -- a command with what it works on: names, and the paths of files; and whether it is to fail where a line of its
 -- report is not well

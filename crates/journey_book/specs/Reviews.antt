@@ -1,14 +1,9 @@
 -- What a region does to the journeys that are kept: each query is answered anew, and its arrival set beside the kept one.
-use Rattle.std.specs.Prelude.{◌≡◌, ℕ, ◌+◌, ◌-◌, ◌==◌, ◌||◌, nat_eq, nat_lt, Bool, ◌⊎◌, List, ◌++◌, codes, Option, None, Some, if◌then◌else◌}
+use Rattle.std.specs.Prelude.{◌≡◌, ℕ, ◌+◌, ◌-◌, ◌==◌, ◌||◌, nat_eq, nat_lt, Bool, ◌⊎◌, List, ◌++◌, codes, Option, None, Some, if◌then◌else◌, bytes_eq}
 use Rattle.std.specs.List.{starts_with}
-use Rattle.std.specs.Str.{bytes_eq}
-use Rattle.service_days.specs.Clock.{clock_text_of}
-use Rattle.mode_network.specs.NetworkLists.{NetworkLists}
-use Rattle.mode_network.specs.Journeys.{Route}
-use Rattle.journey.specs.declared.fault.QueryFault.{QueryFault}
-use Rattle.journey.specs.Queries.{IsRefused}
-use Rattle.journey.specs.Best.{Asked, Asks, IsBest, HasNone}
-use Rattle.journey.specs.Texts.{refusal_text}
+use Rattle.service_days.specs.{clock_text_of}
+use Rattle.mode_network.specs.{NetworkLists.NetworkLists, Route}
+use Rattle.journey.specs.{QueryFault, IsRefused, Asked, Asks, IsBest, HasNone, refusal_text}
 use Rattle.journey_book.specs.Reports.{ClaimRule}
 
 -- When a kept journey arrives, where its query departs then: as long after the departure as it says that it arrives after its

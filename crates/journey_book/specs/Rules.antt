@@ -1,13 +1,9 @@
 -- What the reports of each kind say.
 use Rattle.std.specs.Prelude.{Option, IfSome, option_map}
 use Rattle.mode_network.specs.NetworkLists.{NetworkLists}
-use Rattle.hierarchy.specs.Lists.{HierarchyLists}
-use Rattle.hierarchy.specs.Soundness.{IsSound}
-use Rattle.journey_book.specs.Reports.{ReportRule, IsJudged, says_valid}
-use Rattle.journey_book.specs.Reviews.{IsReviewed, is_no_later}
-use Rattle.journey_book.specs.declared.reports.Report.{Report}
-use Rattle.journey_book.specs.declared.words.ReportKind.{ReportKind}
-use Rattle.journey_book.specs.declared.words.ReportKind.TheVariants.{Recheck, Review}
+use Rattle.hierarchy.specs.{HierarchyLists, IsSound}
+use Rattle.journey_book.specs.{Reports.ReportRule, Reports.IsJudged, Reports.says_valid, Reviews.IsReviewed, Reviews.is_no_later, declared.words.ReportKind.ReportKind, declared.words.ReportKind.TheVariants.Recheck, declared.words.ReportKind.TheVariants.Review}
+pub use Rattle.journey_book.specs.declared.reports.Report.{Report}
 
 -- which of the certificates hold in a region, and what it does to the journeys that are kept
 abbrev pub report_rule : ReportKind → NetworkLists → Option HierarchyLists → ReportRule

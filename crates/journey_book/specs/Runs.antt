@@ -1,16 +1,9 @@
 -- Runs over one book, one after the other.
 use Rattle.std.specs.Prelude.{◌≡◌, ℕ, ◌⊎◌, Bool, true, false, List, [], ◌∷◌, fold, Option, Some}
 use Rattle.std.specs.List.{AllZip}
-use Rattle.plan_base.specs.Shelves.{Told}
-use Rattle.plan_base.specs.declared.limits.Caps.{Caps}
-use Rattle.run_steps.specs.Scene.{Scene}
-use Rattle.journey_book.specs.Books.{Book, dropped, kept}
-use Rattle.journey_book.specs.Keepers.{KeeperMeaning}
-use Rattle.journey_book.specs.Outcomes.{IsBookOutcome}
-use Rattle.journey_book.specs.Requests.{AsksOfBook, BookRequest, keep, drop, list, show, report}
-use Rattle.journey_book.specs.declared.outcome.BookOutcome.{BookOutcome}
-use Rattle.journey_book.specs.declared.outcome.BookOutcome.TheVariants.{Common}
-use Rattle.run_steps.specs.declared.outcome.Outcome.TheVariants.{Done}
+use Rattle.plan_base.specs.{Told, Caps}
+use Rattle.run_steps.specs.{Scene.Scene, Done}
+use Rattle.journey_book.specs.{Books.Book, Books.dropped, Books.kept, Keepers.KeeperMeaning, Outcomes.IsBookOutcome, Requests.AsksOfBook, Requests.BookRequest, Requests.keep, Requests.drop, Requests.list, Requests.show, Requests.report, declared.outcome.BookOutcome.BookOutcome, declared.outcome.BookOutcome.TheVariants.Common}
 
 -- what a run does to a book
 pub data Change : Type 0 where

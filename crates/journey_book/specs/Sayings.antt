@@ -1,24 +1,12 @@
 -- What a run says by its outcome, put together from what it reads, keeps and writes.
 use Rattle.std.specs.Prelude.{◌≡◌, ℕ, ◌⊎◌, ⊤, List, take, Option, Result, Ok, Err}
-use Rattle.plan_base.specs.Counts.{Rose}
-use Rattle.plan_base.specs.Shelves.{ShelfMeaning, IsLater, HasRead}
+use Rattle.plan_base.specs.{Rose, ShelfMeaning, IsLater, HasRead, Caps}
 use Rattle.plan_base.specs.Sinks as sinks
-use Rattle.plan_base.specs.declared.limits.Caps.{Caps}
 use Rattle.mode_network.specs.NetworkLists.{NetworkLists}
-use Rattle.hierarchy.specs.Lists.{HierarchyLists}
-use Rattle.run_steps.specs.declared.outcome.FileRole.TheVariants.{Certificate}
-use Rattle.run_steps.specs.declared.outcome.Outcome.{Outcome}
-use Rattle.run_steps.specs.declared.outcome.Outcome.TheVariants.{Done, WriteFault, OutOfMemory}
-use Rattle.run_steps.specs.CertificateCauses.{IsUnverified}
-use Rattle.run_steps.specs.Scene.{Scene, SayingOf, with_shelf}
-use Rattle.run_steps.specs.Sayings.{HasWritten, IsUnread, most_bytes}
-use Rattle.answer_commands.specs.Complete.{SpellsValid}
-use Rattle.answer_commands.specs.Outputs.{best_certificates}
-use Rattle.answer_commands.specs.Working.{HasBoth, IsBothOutcome}
-use Rattle.journey_book.specs.Books.{Book}
-use Rattle.journey_book.specs.Keepers.{KeeperMeaning, Becomes, BookStays, Tells}
-use Rattle.journey_book.specs.declared.outcome.BookOutcome.{BookOutcome}
-use Rattle.journey_book.specs.declared.outcome.BookOutcome.TheVariants.{Common, KeepFault, NotWell}
+use Rattle.hierarchy.specs.{HierarchyLists}
+use Rattle.run_steps.specs.{Certificate, Outcome, Done, WriteFault, OutOfMemory, IsUnverified, SayingOf, with_shelf, HasWritten, IsUnread, most_bytes, Scene.Scene}
+use Rattle.answer_commands.specs.{SpellsValid, best_certificates, HasBoth, IsBothOutcome}
+use Rattle.journey_book.specs.{Books.Book, Keepers.KeeperMeaning, Keepers.Becomes, Keepers.BookStays, Keepers.Tells, declared.outcome.BookOutcome.BookOutcome, declared.outcome.BookOutcome.TheVariants.Common, declared.outcome.BookOutcome.TheVariants.KeepFault, declared.outcome.BookOutcome.TheVariants.NotWell}
 
 -- what is said of a run that works on a keeper too, by its outcome
 abbrev pub BookSaying : Type 1

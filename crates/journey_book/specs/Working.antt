@@ -1,12 +1,8 @@
 -- What the steps of a run answer.
 use Rattle.std.specs.Prelude.{ℕ, ◌≤◌, ⊤, None, Result, Err, Ok}
-use Rattle.run_steps.specs.declared.outcome.Outcome.{Outcome}
-use Rattle.run_steps.specs.declared.outcome.Outcome.TheVariants.{OutOfMemory}
-use Rattle.journey_book.specs.Keepers.{IsKeepFault}
-use Rattle.journey_book.specs.declared.keeper.KeepFault.{KeepFault as KeepCause}
+use Rattle.run_steps.specs.{Outcome, OutOfMemory}
+use Rattle.journey_book.specs.{Keepers.IsKeepFault, declared.keeper.KeepFault.KeepFault as KeepCause, declared.outcome.BookOutcome.BookOutcome, declared.outcome.BookOutcome.TheVariants.Common, declared.outcome.BookOutcome.TheVariants.KeepFault}
 use Rattle.journey_book.specs.declared.keeper.KeepFault.TheVariants as keep_cause
-use Rattle.journey_book.specs.declared.outcome.BookOutcome.{BookOutcome}
-use Rattle.journey_book.specs.declared.outcome.BookOutcome.TheVariants.{Common, KeepFault}
 
 -- how a run ends where the keeper refuses a call
 abbrev pub outcome_of_keeper : KeepCause → BookOutcome

@@ -1,6 +1,6 @@
 //! The commands `keep` and `drop`, which change the book.
 
-ghost use Rattle.std.specs.Prelude.{◌≡◌, IfErr, IfOk, IfSome, option_map};
+ghost use Rattle.std.specs.Prelude.{IfErr, IfOk, IfSome, option_map};
 ghost use Rattle.plan_base.specs.Sinks.{SinkMeaning};
 ghost use Rattle.plan_base.specs.Shelves.{ShelfMeaning};
 ghost use Rattle.hierarchy.specs.Soundness.{IsSound};

@@ -1,6 +1,6 @@
 //! Reports: what is said of each certificate that is kept.
 
-ghost use Rattle.std.specs.Prelude.{◌≡◌, ◌≤◌, ℕ, List, ◌++◌, ◌&&◌, codes, map, option_map, string_bytes, IfErr, IfOk, OnOk};
+ghost use Rattle.std.specs.Prelude.{◌≡◌, ◌≤◌, ◌++◌, ◌&&◌, codes, map, option_map, string_bytes, IfErr, IfOk, OnOk};
 ghost use Rattle.plain_texts.specs.Lines.{with_feed};
 ghost use Rattle.journey.specs.Blocks.{AddsText};
 ghost use Rattle.certificate.specs.Valid.{HaveTimes};

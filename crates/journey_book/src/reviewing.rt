@@ -8,7 +8,7 @@ ghost use Rattle.journey.specs.Blocks.{AddsText, IsPrintable};
 ghost use Rattle.journey.specs.Ends.{HasTimes};
 ghost use Rattle.certificate.specs.Valid.{HaveTimes};
 ghost use Rattle.planning.specs.Plans.{IsRead};
-ghost use Rattle.journey_book.specs.Reviews.{IsAnswered, IsReviewed, arrival_words, beside, is_no_later, kept_arrival, nothing_words};
+ghost use Rattle.journey_book.specs.Reviews.{IsAnswered, IsReviewed, arrival_words, beside, is_no_later, nothing_words};
 ghost use Rattle.journey_book.specs.Rules.{MayReport};
 
 use crate::reports::Report;

@@ -1,6 +1,6 @@
 //! The top call: what a command with these words does to a book.
 
-ghost use Rattle.std.specs.Prelude.{◌≡◌, ℕ, List, map, string_bytes};
+ghost use Rattle.std.specs.Prelude.{List, map, string_bytes};
 ghost use Rattle.plan_base.specs.declared.limits.Caps.{Caps};
 ghost use Rattle.run_steps.specs.Regions.{AreFull};
 ghost use Rattle.run_steps.specs.Scene.{scene_of};

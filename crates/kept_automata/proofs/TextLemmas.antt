@@ -1,16 +1,10 @@
 -- The text of a query line's expression, and the form that it spells.
-use Rattle.std.proofs.Common.{◌≡◌, ◌∙◌, ℕ, ◌+◌, List, Some, None, take, drop, ap, refl, sym, subst}
-use Rattle.std.specs.Prelude.{Bool, true, false, ◌&&◌, Option, ◌==◌, position, option_map, Ok}
+use Rattle.plan_base.proofs.Common.{◌≡◌, ◌∙◌, ℕ, ◌+◌, List, Some, None, take, drop, ap, refl, sym, subst, Bool, true, false, ◌&&◌, Option, ◌==◌, position, option_map, Ok, ∥∥₁_map, option_and_then_some, none-some, same_Some}
 use mathlib.Core.Bool.{cond}
-use Rattle.std.proofs.Math.Logic.{∥∥₁_map}
-use Rattle.std.proofs.lemmas.Option.{option_and_then_some, none-some, same_Some}
-use Rattle.mode_expression.specs.Form.{Form}
-use Rattle.mode_expression.specs.Reading.{IsExpression, OutcomeIsUnique}
-use Rattle.mode_network.specs.NetworkLists.{NetworkLists}
-use Rattle.mode_network.specs.declared.endpoints.Endpoint.{Endpoint}
-use Rattle.journey.specs.Shapes.{Fields, Shape, at_space, fields_of, shape_of, shape_of_fields, endpoint_of, is_filled}
-use Rattle.journey.specs.Queries.{IsQuery}
-use Rattle.kept_automata.specs.Texts.{IsMadeOfText, IsSpelledIn, behind_space, behind_place, expression_text}
+use Rattle.mode_expression.specs.{Form.Form, IsExpression, OutcomeIsUnique}
+use Rattle.mode_network.specs.{NetworkLists.NetworkLists, Endpoint}
+use Rattle.journey.specs.{Fields, Shape, at_space, fields_of, shape_of, shape_of_fields, endpoint_of, is_filled, IsQuery}
+use Rattle.kept_automata.specs.{IsMadeOfText, IsSpelledIn, behind_space, behind_place, expression_text}
 
 -- the value that is there under a test
 guarded : {A : Type 0} (b : Bool) (o : Option A) (y : A) → cond b o None ≡ Some y → o ≡ Some y

@@ -1,14 +1,12 @@
 -- Of what is decided place by place it is known what is known to be so. These are proofs, which a ghost member cites; nothing is defined here
 -- that a contract means.
-use Rattle.std.proofs.Common.{◌≡◌, ◌⊎◌, inl, inr, ℕ, zero, suc, ◌^◌, ◌<◌, subst, arith}
-use Rattle.std.specs.Prelude.{IsBitSet}
-use Rattle.std.specs.Int.Bits.{bit_and}
+use Rattle.std.specs.Prelude.{◌≡◌, ◌⊎◌, ℕ, zero, suc, ◌^◌, ◌<◌, IsBitSet, bit_and}
+use Rattle.std.proofs.Common.{inl, inr, subst, arith}
 use Rattle.std.proofs.Props.{props}
 use Rattle.std.proofs.Math.Logic.{∥∥₁_elim, ∥∥₁_map}
 use Rattle.std.proofs.lemmas.Bool.{cases_lt}
-use Rattle.search_laws.specs.LabelLaws.{LabelsMeaning, HasMove}
-use Rattle.automaton.specs.Written.{Written}
-use Rattle.automaton.specs.States.{IsPositionAutomaton}
+use Rattle.search_laws.specs.{LabelsMeaning, HasMove}
+use Rattle.automaton.specs.{Written.Written, IsPositionAutomaton}
 
 -- ---- a move that is known to be there can be found
 

@@ -1,8 +1,7 @@
 -- The text of a query line's expression, and what is made of the expression that a text is.
 use Rattle.std.specs.Prelude.{◌≡◌, ℕ, ◌+◌, ◌==◌, List, [], drop, Option, Some, None, position}
-use Rattle.mode_expression.specs.Form.{Form}
-use Rattle.mode_expression.specs.Reading.{IsExpression}
-use Rattle.journey.specs.Shapes.{Shape, shape_of}
+use Rattle.mode_expression.specs.{Form.Form, IsExpression}
+use Rattle.journey.specs.{Shape, shape_of}
 
 -- it is what is made of the expression that the text is
 abbrev pub IsMadeOfText : List ℕ → (Form → Type 0) → Type 0

@@ -1,27 +1,17 @@
 -- What is spelled is read: the lines of a late certificate may stand where they do, and make the certificate again.
-use Rattle.std.proofs.Common.{◌≡◌, ℕ, List, [], ◌∷◌, ◌++◌, map, refl, ap, sym, ◌∙◌, true, cond, arith, append_assoc}
-use Rattle.std.specs.Prelude.{Option, Some, None, fold, option_map, nat_eq}
-use Rattle.std.proofs.lemmas.Bool.Decides.{nat_tests}
-use Rattle.std.proofs.lemmas.List.{append-nil}
-use Rattle.plain_texts.specs.Course.{run_on}
-use Rattle.mode_network.specs.declared.steps.Step.{Step}
-use Rattle.mode_network.specs.Journeys.{Route}
-use Rattle.product_search.specs.declared.label.Label.{Label}
-use Rattle.certificate.specs.declared.lines.Line.{Line as UsualLine}
+use Rattle.plan_base.proofs.Common.{◌≡◌, ℕ, List, [], ◌∷◌, ◌++◌, map, refl, ap, sym, ◌∙◌, true, cond, arith, append_assoc, Option, Some, None, fold, option_map, nat_eq, nat_tests, append-nil}
+use Rattle.plain_texts.specs.{run_on}
+use Rattle.mode_network.specs.{Step, Route}
+use Rattle.product_search.specs.{Label}
+use Rattle.certificate.specs.{Line as UsualLine, Due as UsualDue, label_lines}
 use Rattle.certificate.specs.declared.lines.Line.TheVariants as usual
-use Rattle.certificate.specs.declared.due.Due.{Due as UsualDue}
 use Rattle.certificate.specs.declared.due.Due.TheVariants as usual_due
 use Rattle.certificate.specs.Sections as behind
-use Rattle.certificate.specs.Texts.{label_lines}
 use Rattle.certificate.proofs.Again.{run_labels, run_steps}
-use Rattle.latest_departure.specs.ValidLate.{LateClaim}
-use Rattle.late_certificate.specs.declared.lines.Line.{Line}
+use Rattle.latest_departure.specs.{LateClaim}
+use Rattle.late_certificate.specs.{Line, Due, due_behind, late_lines, result_lines, nothing, put, put_usual}
 use Rattle.late_certificate.specs.declared.lines.Line.TheVariants as line
-use Rattle.late_certificate.specs.declared.due.Due.{Due}
 use Rattle.late_certificate.specs.declared.due.Due.TheVariants as due
-use Rattle.late_certificate.specs.Sections.{due_behind}
-use Rattle.late_certificate.specs.Texts.{late_lines, result_lines}
-use Rattle.late_certificate.specs.Reading.{nothing, put, put_usual}
 
 -- The lines run to the end.
 

@@ -1,25 +1,17 @@
 -- What is read is spelled so: lines that run from the head to the end are those of a late certificate.
-use Rattle.std.proofs.Common.{◌≡◌, ℕ, List, [], ◌∷◌, ◌++◌, map, refl, ap, sym, ◌∙◌, subst, Bool, true, false, cond, arith}
-use Rattle.std.specs.Prelude.{Option, Some, None, nat_eq, option_map}
-use Rattle.std.proofs.lemmas.Bool.Decides.{nat_tests}
-use Rattle.std.proofs.lemmas.Option.{same_Some}
-use Rattle.plain_texts.specs.Course.{run_on}
-use Rattle.mode_network.specs.Journeys.{Route}
-use Rattle.product_search.specs.declared.label.Label.{Label}
-use Rattle.certificate.specs.declared.lines.Line.{Line as UsualLine}
+use Rattle.plan_base.proofs.Common.{◌≡◌, ℕ, List, [], ◌∷◌, ◌++◌, map, refl, ap, sym, ◌∙◌, subst, Bool, true, false, cond, arith, Option, Some, None, nat_eq, option_map, nat_tests, same_Some}
+use Rattle.plain_texts.specs.{run_on}
+use Rattle.mode_network.specs.{Route}
+use Rattle.product_search.specs.{Label}
+use Rattle.certificate.specs.{Line as UsualLine, Due as UsualDue, label_lines}
 use Rattle.certificate.specs.declared.lines.Line.TheVariants as usual
-use Rattle.certificate.specs.declared.due.Due.{Due as UsualDue}
 use Rattle.certificate.specs.declared.due.Due.TheVariants as usual_due
 use Rattle.certificate.specs.Sections as behind
-use Rattle.certificate.specs.Texts.{label_lines}
 use Rattle.certificate.proofs.Found.{counted_are, not_the_last, nothing_runs, steps_are}
-use Rattle.latest_departure.specs.ValidLate.{LateClaim}
-use Rattle.late_certificate.specs.declared.lines.Line.{Line}
+use Rattle.latest_departure.specs.{LateClaim}
+use Rattle.late_certificate.specs.{Line, Due, due_behind, is_last, late_lines, result_lines}
 use Rattle.late_certificate.specs.declared.lines.Line.TheVariants as line
-use Rattle.late_certificate.specs.declared.due.Due.{Due}
 use Rattle.late_certificate.specs.declared.due.Due.TheVariants as due
-use Rattle.late_certificate.specs.Sections.{due_behind, is_last}
-use Rattle.late_certificate.specs.Texts.{late_lines, result_lines}
 use Rattle.late_certificate.proofs.Again.{map_append}
 
 -- lines that any certificate may have, which run there to the last place

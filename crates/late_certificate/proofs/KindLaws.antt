@@ -1,20 +1,12 @@
 -- The two laws of a line by itself: what is read is spelled so, and what is spelled so is read.
-use Rattle.std.proofs.Common.{◌≡◌, ℕ, List, [], ◌∷◌, refl, ap, ap₂, sym, ◌∙◌, subst, Bool, true, false, cond, arith}
-use Rattle.std.specs.Prelude.{Option, Some, None, option_map, codes, decimal, ◌&&◌}
-use Rattle.std.specs.Str.{bytes_eq}
-use Rattle.std.proofs.lemmas.Option.{none-some, same_Some}
-use Rattle.plain_texts.specs.Lines.{words_of, spaced}
-use Rattle.plain_texts.specs.Numbers.{number_at}
+use Rattle.plan_base.proofs.Common.{◌≡◌, ℕ, List, [], ◌∷◌, refl, ap, ap₂, sym, ◌∙◌, subst, Bool, true, false, cond, arith, Option, Some, None, option_map, codes, decimal, ◌&&◌, bytes_eq, none-some, same_Some}
+use Rattle.plain_texts.specs.{words_of, spaced, number_at}
 use Rattle.plain_texts.proofs.Spaced.{spaced-words_of, words_of-spaced, word_by_test, decimal_is_word}
-use Rattle.certificate.specs.declared.lines.Line.{Line as UsualLine}
-use Rattle.certificate.specs.Kinds.{behind_query, head_of_words, line_of_kind, label_of_words, line_of_words, query_or_words, time_of_word}
+use Rattle.certificate.specs.{Line as UsualLine, behind_query, head_of_words, line_of_kind, label_of_words, line_of_words, query_or_words, time_of_word, IsTime}
 use Rattle.certificate.specs.Kinds as usual
-use Rattle.certificate.specs.Lines.{IsTime}
 use Rattle.certificate.proofs.KindLaws.{mapped, same_bytes, time_takes, time_again, line_takes as usual_takes, line_again as usual_again}
-use Rattle.late_certificate.specs.declared.lines.Line.{Line}
+use Rattle.late_certificate.specs.{Line, FitsLine, spelled, words, depart_of_words, line_of, own_of_words, usual_or_own}
 use Rattle.late_certificate.specs.declared.lines.Line.TheVariants as line
-use Rattle.late_certificate.specs.Lines.{FitsLine, spelled, words}
-use Rattle.late_certificate.specs.Kinds.{depart_of_words, line_of, own_of_words, usual_or_own}
 
 -- ---- the lines that only a late certificate has
 

@@ -1,36 +1,18 @@
 -- What the bytes of a late certificate spell: the laws of the whole.
-use Rattle.std.proofs.Common.{◌≡◌, ℕ, List, [], ◌∷◌, ◌++◌, map, refl, ap, sym, ◌∙◌, subst, arith}
-use Rattle.std.specs.Prelude.{Option, Some, None, Result, Ok, Err, codes, fold, IfErr}
-use Rattle.std.specs.List.{AllByRecursion}
-use Rattle.plain_texts.specs.Lines.{IsLine, pieces}
-use Rattle.plain_texts.specs.Course.{lines_from}
-use Rattle.plain_texts.proofs.Pieces.{text_of_lines}
-use Rattle.plain_texts.proofs.Spaced.{spaced_is_line, word_by_test, decimal_is_word}
-use Rattle.mode_network.specs.Journeys.{Route}
-use Rattle.certificate.specs.declared.verdict.CertFault.{CertFault}
-use Rattle.certificate.specs.declared.verdict.CertFault.TheVariants.{BadLine}
-use Rattle.certificate.specs.declared.lines.Line.{Line as UsualLine}
+use Rattle.plan_base.proofs.Common.{◌≡◌, ℕ, List, [], ◌∷◌, ◌++◌, map, refl, ap, sym, ◌∙◌, subst, arith, Option, Some, None, Result, Ok, Err, codes, fold, IfErr, AllByRecursion}
+use Rattle.plain_texts.specs.{IsLine, pieces, lines_from}
+use Rattle.plain_texts.proofs.{Pieces.text_of_lines, Spaced.spaced_is_line, Spaced.word_by_test, Spaced.decimal_is_word}
+use Rattle.mode_network.specs.{Route}
+use Rattle.certificate.specs.{CertFault, BadLine, Line as UsualLine, label_lines, made_by, Gives, line_at}
 use Rattle.certificate.specs.declared.lines.Line.TheVariants as usual
 use Rattle.certificate.specs.Lines as usual_lines
-use Rattle.certificate.specs.Texts.{label_lines}
-use Rattle.certificate.proofs.FitLemmas.{both_parts, of_both}
-use Rattle.certificate.proofs.Making.{made_of, read_again, cause_is, gives_cause as gives_cause_by}
-use Rattle.certificate.specs.Making.{made_by, Gives, line_at}
-use Rattle.certificate.proofs.KindLaws.{IsInWords}
-use Rattle.certificate.proofs.ReadLaws.{pieces_are_lines, query_is_line, query_line, steps_have_times, labels_have_times, mapped_in_words, each_is_line as usual_are_lines}
-use Rattle.latest_departure.specs.ValidLate.{LateClaim}
-use Rattle.late_certificate.specs.declared.lines.Line.{Line}
+use Rattle.certificate.proofs.{FitLemmas.both_parts, FitLemmas.of_both, Making.made_of, Making.read_again, Making.cause_is, Making.gives_cause as gives_cause_by, KindLaws.IsInWords, ReadLaws.pieces_are_lines, ReadLaws.query_is_line, ReadLaws.query_line, ReadLaws.steps_have_times, ReadLaws.labels_have_times, ReadLaws.mapped_in_words, ReadLaws.each_is_line as usual_are_lines}
+use Rattle.latest_departure.specs.{LateClaim}
+use Rattle.late_certificate.specs.{Line, FitsLine, spelled, due_behind, is_last, FitsLate, FitsLateResult, IsLateText, late_lines, late_text, result_lines, HasCause, late_meaning, late_of, nothing, put}
 use Rattle.late_certificate.specs.declared.lines.Line.TheVariants as line
 use Rattle.late_certificate.specs.declared.due.Due.TheVariants as due
 use Rattle.certificate.specs.declared.due.Due.TheVariants as usual_due
-use Rattle.late_certificate.specs.Lines.{FitsLine, spelled}
-use Rattle.late_certificate.specs.Sections.{due_behind, is_last}
-use Rattle.late_certificate.specs.Texts.{FitsLate, FitsLateResult, IsLateText, late_lines, late_text, result_lines}
-use Rattle.late_certificate.specs.Reading.{HasCause, late_meaning, late_of, nothing, put}
-use Rattle.late_certificate.proofs.SectionLaws.{reads_lines}
-use Rattle.late_certificate.proofs.Again.{made_again, runs_to_end}
-use Rattle.late_certificate.proofs.Found.{late_is}
-use Rattle.late_certificate.proofs.TextLemmas.{fit_usual}
+use Rattle.late_certificate.proofs.{SectionLaws.reads_lines, Again.made_again, Again.runs_to_end, Found.late_is, TextLemmas.fit_usual}
 
 -- What the lines say fits the format.
 result_fits : (result : Option Route) → AllByRecursion FitsLine (result_lines result) → FitsLateResult result

@@ -1,17 +1,11 @@
 -- Reading a line where it stands.
-use Rattle.std.proofs.Common.{◌≡◌, refl, ap, true}
-use Rattle.std.specs.Prelude.{None, option_map}
-use Rattle.std.proofs.lemmas.Bool.{false≢true}
+use Rattle.plan_base.proofs.Common.{◌≡◌, refl, ap, true, None, option_map, false≢true}
 use Rattle.plain_texts.proofs.Course.{ReadsLines}
-use Rattle.certificate.specs.Making.{line_at}
+use Rattle.certificate.specs.{line_at}
 use Rattle.certificate.proofs.SectionLaws as usual
-use Rattle.late_certificate.specs.declared.lines.Line.{Line}
+use Rattle.late_certificate.specs.{Line, Due, FitsLine, spelled, late_meaning, due_behind, is_last}
 use Rattle.late_certificate.specs.declared.lines.Line.TheVariants as line
-use Rattle.late_certificate.specs.declared.due.Due.{Due}
 use Rattle.late_certificate.specs.declared.due.Due.TheVariants as due
-use Rattle.late_certificate.specs.Lines.{FitsLine, spelled}
-use Rattle.late_certificate.specs.Reading.{late_meaning}
-use Rattle.late_certificate.specs.Sections.{due_behind, is_last}
 use Rattle.late_certificate.proofs.KindLaws.{line_takes, line_again}
 
 stops : (place : Due) (l : Line) → is_last place ≡ true → due_behind place l ≡ None

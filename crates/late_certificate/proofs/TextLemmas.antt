@@ -1,19 +1,14 @@
 -- The text of a late certificate, part by part.
-use Rattle.std.proofs.Common.{◌≡◌, ℕ, List, [], ◌∷◌, ◌++◌, map, refl, ap, sym, ◌∙◌}
-use Rattle.std.specs.Prelude.{codes}
-use Rattle.std.specs.List.{AllByRecursion, flat_map}
-use Rattle.std.proofs.lemmas.List.{append-nil}
-use Rattle.plain_texts.specs.Lines.{lines_text, spaced, with_feed}
-use Rattle.mode_network.specs.Journeys.{Route}
-use Rattle.certificate.specs.declared.lines.Line.{Line as UsualLine}
+use Rattle.plan_base.proofs.Common.{◌≡◌, ℕ, List, [], ◌∷◌, ◌++◌, map, refl, ap, sym, ◌∙◌, codes, AllByRecursion, flat_map, append-nil}
+use Rattle.plain_texts.specs.{lines_text, spaced, with_feed}
+use Rattle.mode_network.specs.{Route}
+use Rattle.certificate.specs.{Line as UsualLine, label_lines}
 use Rattle.certificate.specs.declared.lines.Line.TheVariants as usual
 use Rattle.certificate.specs.Lines as usual_lines
-use Rattle.certificate.specs.Texts.{label_lines}
 use Rattle.certificate.proofs.TextLemmas.{lines_append, made_alike}
-use Rattle.latest_departure.specs.ValidLate.{LateClaim}
+use Rattle.latest_departure.specs.{LateClaim}
 use Rattle.late_certificate.specs.declared.lines.Line.TheVariants as line
-use Rattle.late_certificate.specs.Lines.{FitsLine, spelled}
-use Rattle.late_certificate.specs.Texts.{front_lines, late_text, result_lines}
+use Rattle.late_certificate.specs.{FitsLine, spelled, front_lines, late_text, result_lines}
 
 -- lines that any certificate may have are spelled as they are there, and say what they may say there
 usual_text : (ls : List UsualLine) → lines_text (map spelled (map line.Usual ls)) ≡ lines_text (map usual_lines.spelled ls)

@@ -1,22 +1,15 @@
 -- A late certificate has one verdict. Each clause says the same however the timetable sorts the runs into patterns, and whichever automaton that reads
 -- from the ends is taken; and of the clauses one is the first that fails, at one place.
-use Rattle.std.proofs.Common.{◌≡◌, ℕ, inl, inr, List, Option, Some, None, refl, sym, ap, subst, ◌∙◌}
-use Rattle.product_search.specs.declared.verdict.LabelVerdict.{LabelVerdict}
-use Rattle.product_search.specs.declared.verdict.LabelVerdict.TheVariants.{Closed, Open}
-use Rattle.product_search.specs.Closed.{IsVerdict}
-use Rattle.mode_network.specs.NetworkLists.{NetworkLists}
-use Rattle.mode_network.specs.Rules.{IsNetwork}
-use Rattle.mode_network.specs.Journeys.{Route}
-use Rattle.certificate.specs.declared.verdict.CertVerdict.{CertVerdict}
-use Rattle.certificate.specs.declared.verdict.CertVerdict.TheVariants.{Valid, Invalid}
-use Rattle.journey.specs.Best.{Asked}
+use Rattle.plan_base.proofs.Common.{◌≡◌, ℕ, inl, inr, List, Option, Some, None, refl, sym, ap, subst, ◌∙◌}
+use Rattle.product_search.specs.{LabelVerdict, Open, IsVerdict, declared.verdict.LabelVerdict.TheVariants.Closed}
+use Rattle.mode_network.specs.{NetworkLists.NetworkLists, IsNetwork, Route}
+use Rattle.certificate.specs.{CertVerdict, Invalid, as_verdict, declared.verdict.CertVerdict.TheVariants.Valid}
+use Rattle.journey.specs.{Asked}
 use Rattle.journey.proofs.CopyLemmas.{one_list_of_copies}
-use Rattle.certificate.specs.Verdicts.{as_verdict}
 use Rattle.certificate.proofs.UniqueLemmas.{as_claimed_fails_not, one_fault, same_labels_verdict, ByLine, same_by_line, ByResult, same_by_result}
-use Rattle.latest_departure.specs.Latest.{Mirroring, graph_of, labels_of}
-use Rattle.latest_departure.specs.ValidLate.{LateClaim, LateHolds, late_bound}
+use Rattle.latest_departure.specs.{Mirroring, graph_of, labels_of, LateClaim, LateHolds, late_bound}
 use Rattle.latest_departure.proofs.AlikeLemmas.{mirrors_are_alike, readers_are_alike}
-use Rattle.late_certificate.specs.Verdicts.{goal_of, IsResultVerdict, IsLateVerdict, LateVerdictIsUnique}
+use Rattle.late_certificate.specs.{goal_of, IsResultVerdict, IsLateVerdict, LateVerdictIsUnique}
 use Rattle.late_certificate.proofs.VerdictLemmas.{in_time_as_claimed}
 
 module _ (n : NetworkLists) (network : IsNetwork n) (c : LateClaim) where

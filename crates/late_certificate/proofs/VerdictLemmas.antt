@@ -1,10 +1,9 @@
 -- The verdict on a journey that is claimed.
-use Rattle.mode_network.specs.NetworkLists.{NetworkLists}
-use Rattle.mode_network.specs.Journeys.{Route}
-use Rattle.journey.specs.Best.{Asked}
-use Rattle.certificate.specs.Claimed.{IsAsClaimed}
-use Rattle.latest_departure.specs.Late.{IsInTime}
-use Rattle.late_certificate.specs.Verdicts.{goal_of}
+use Rattle.mode_network.specs.{NetworkLists.NetworkLists, Route}
+use Rattle.journey.specs.{Asked}
+use Rattle.certificate.specs.{IsAsClaimed}
+use Rattle.latest_departure.specs.{IsInTime}
+use Rattle.late_certificate.specs.{goal_of}
 
 -- a journey that is in time is as that is claimed
 pub in_time_as_claimed : (n : NetworkLists) (q : Asked) (j : Route) → IsInTime n q j → IsAsClaimed n q (goal_of n q) j

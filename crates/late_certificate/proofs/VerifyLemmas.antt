@@ -1,34 +1,16 @@
 -- What the checks of a late certificate say of it together.
-use Rattle.std.proofs.Common.{◌≡◌, ℕ, ◌<◌, ◌≤◌, ◌^◌, inr, List, Option, Some, None, sym, subst, arith}
-use Rattle.std.specs.Prelude.{Ok, IfSome}
-use Rattle.search_laws.specs.Times.{time_bound}
-use Rattle.product_search.specs.declared.label.Label.{Label}
-use Rattle.product_search.specs.declared.verdict.LabelVerdict.{LabelVerdict}
-use Rattle.product_search.specs.declared.verdict.LabelVerdict.TheVariants.{Closed, Open}
-use Rattle.product_search.specs.Closed.{IsVerdict}
-use Rattle.mode_network.specs.NetworkLists.{NetworkLists}
-use Rattle.mode_network.specs.Rules.{IsNetwork}
-use Rattle.mode_network.specs.Timetables.{IsTimetableOf}
-use Rattle.mode_network.specs.Journeys.{Route}
-use Rattle.timetable_arcs.specs.Patterns.{TableLists}
-use Rattle.timetable_arcs.specs.Table.{IsTable}
-use Rattle.journey.specs.declared.query.Query.{Query}
-use Rattle.certificate.specs.declared.verdict.CertVerdict.TheVariants.{Valid}
-use Rattle.journey.specs.Best.{Asked, Asks}
+use Rattle.plan_base.proofs.Common.{◌≡◌, ℕ, ◌<◌, ◌≤◌, ◌^◌, inr, List, Option, Some, None, sym, subst, arith, Ok, IfSome}
+use Rattle.search_laws.specs.{time_bound}
+use Rattle.product_search.specs.{Label, LabelVerdict, Open, IsVerdict, declared.verdict.LabelVerdict.TheVariants.Closed}
+use Rattle.mode_network.specs.{NetworkLists.NetworkLists, IsNetwork, IsTimetableOf, Route}
+use Rattle.timetable_arcs.specs.{TableLists, IsTable}
+use Rattle.journey.specs.{Query, Asked, Asks}
+use Rattle.certificate.specs.{declared.verdict.CertVerdict.TheVariants.Valid, as_verdict}
 use Rattle.journey.proofs.ReadingLemmas.{reading_is_unique}
-use Rattle.certificate.specs.Verdicts.{as_verdict}
-use Rattle.automaton.specs.Collapsed.{collapsed}
-use Rattle.latest_departure.specs.declared.search.LateSearch.{LateSearch}
-use Rattle.latest_departure.specs.BackLists.{BackLists, IsBackwards, mirrored}
-use Rattle.latest_departure.specs.Late.{deadline}
-use Rattle.latest_departure.specs.Meanings.{reversed_meaning}
-use Rattle.latest_departure.specs.Searches.{IsSearchFor}
-use Rattle.latest_departure.specs.Latest.{IsLate, Mirroring, graph_of, labels_of}
-use Rattle.latest_departure.specs.ValidLate.{LateClaim, LateHolds, late_bound}
-use Rattle.latest_departure.proofs.MirrorWalks.{steps_rise}
-use Rattle.latest_departure.proofs.SearchLemmas.{over}
-use Rattle.late_certificate.specs.Texts.{FitsLateResult}
-use Rattle.late_certificate.specs.Verdicts.{claim_on, IsLateVerdict, IsResultVerdict}
+use Rattle.automaton.specs.{collapsed}
+use Rattle.latest_departure.specs.{LateSearch, IsBackwards, mirrored, deadline, reversed_meaning, IsSearchFor, IsLate, Mirroring, graph_of, labels_of, LateClaim, LateHolds, late_bound, BackLists.BackLists}
+use Rattle.latest_departure.proofs.{MirrorWalks.steps_rise, SearchLemmas.over}
+use Rattle.late_certificate.specs.{FitsLateResult, claim_on, IsLateVerdict, IsResultVerdict}
 
 -- the claim of a late certificate, part by part
 pub claim_is : (c : LateClaim) (q : Query) (line : List ℕ) (result : Option Route) (labels : List Label)

@@ -1,8 +1,7 @@
 -- What a late certificate of a query line is.
 use Rattle.std.specs.Prelude.{◌≡◌, ℕ, List}
 use Rattle.mode_network.specs.NetworkLists.{NetworkLists}
-use Rattle.latest_departure.specs.Latest.{AreLateLabels}
-use Rattle.latest_departure.specs.ValidLate.{LateClaim, IsValidLate, ProvesLate}
+use Rattle.latest_departure.specs.{AreLateLabels, LateClaim, IsValidLate, ProvesLate}
 use Rattle.late_certificate.specs.Texts.{FitsLate}
 
 -- a valid certificate for the line, whose labels are those of the search; the format can hold it, and it proves what it claims

@@ -1,9 +1,7 @@
 -- What a line says, read word by word.
-use Rattle.std.specs.Prelude.{ℕ, List, [], ◌∷◌, codes, Bool, Option, Some, None, option_map, ◌&&◌, if◌then◌else◌}
-use Rattle.std.specs.Str.{bytes_eq}
-use Rattle.plain_texts.specs.Lines.{words_of}
-use Rattle.certificate.specs.declared.lines.Line.{Line as UsualLine}
-use Rattle.certificate.specs.Kinds.{time_of_word}
+use Rattle.std.specs.Prelude.{ℕ, List, [], ◌∷◌, codes, Bool, Option, Some, None, option_map, ◌&&◌, if◌then◌else◌, bytes_eq}
+use Rattle.plain_texts.specs.{words_of}
+use Rattle.certificate.specs.{Line as UsualLine, time_of_word}
 use Rattle.certificate.specs.Kinds as usual
 use Rattle.late_certificate.specs.declared.lines.Line.{Line}
 use Rattle.late_certificate.specs.declared.lines.Line.TheVariants as line

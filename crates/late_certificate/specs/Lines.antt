@@ -1,9 +1,9 @@
 -- The lines of a late certificate's text, in words.
 use Rattle.std.specs.Prelude.{ℕ, List, [], ◌∷◌, codes, decimal}
-use Rattle.plain_texts.specs.Lines.{spaced}
-use Rattle.certificate.specs.Lines.{IsTime}
+use Rattle.plain_texts.specs.{spaced}
+use Rattle.certificate.specs.{IsTime}
 use Rattle.certificate.specs.Lines as usual
-use Rattle.late_certificate.specs.declared.lines.Line.{Line}
+pub use Rattle.late_certificate.specs.declared.lines.Line.{Line}
 use Rattle.late_certificate.specs.declared.lines.Line.TheVariants as line
 
 abbrev pub words : Line → List (List ℕ)

@@ -1,19 +1,12 @@
 -- What the lines of a late certificate's text make, and what is wrong with bytes that are no late certificate.
 use Rattle.std.specs.Prelude.{ℕ, List, [], ◌∷◌, ◌++◌, Some, None, option_map, Result}
-use Rattle.mode_network.specs.declared.steps.Step.{Step}
-use Rattle.mode_network.specs.Journeys.{Route}
-use Rattle.certificate.specs.declared.verdict.CertFault.{CertFault}
-use Rattle.certificate.specs.declared.lines.Line.{Line as UsualLine}
+use Rattle.mode_network.specs.{Step, Route}
+use Rattle.certificate.specs.{CertFault, Line as UsualLine, IsCause, LinedMeaning, reading}
 use Rattle.certificate.specs.declared.lines.Line.TheVariants as usual
-use Rattle.certificate.specs.Making.{IsCause, LinedMeaning, reading}
-use Rattle.latest_departure.specs.ValidLate.{LateClaim}
-use Rattle.late_certificate.specs.declared.lines.Line.{Line}
+use Rattle.latest_departure.specs.{LateClaim}
+use Rattle.late_certificate.specs.{declared.lines.Line.Line, declared.due.Due.Due, Kinds.line_of, Lines.FitsLine, Lines.spelled, Sections.due_behind, Sections.is_last}
 use Rattle.late_certificate.specs.declared.lines.Line.TheVariants as line
-use Rattle.late_certificate.specs.declared.due.Due.{Due}
 use Rattle.late_certificate.specs.declared.due.Due.TheVariants as due
-use Rattle.late_certificate.specs.Kinds.{line_of}
-use Rattle.late_certificate.specs.Lines.{FitsLine, spelled}
-use Rattle.late_certificate.specs.Sections.{due_behind, is_last}
 
 -- no line yet
 abbrev pub nothing : LateClaim

@@ -6,7 +6,7 @@ use Rattle.certificate.specs.declared.due.Due.TheVariants as usual_due
 use Rattle.certificate.specs.Sections as behind
 use Rattle.late_certificate.specs.declared.lines.Line.{Line}
 use Rattle.late_certificate.specs.declared.lines.Line.TheVariants as line
-use Rattle.late_certificate.specs.declared.due.Due.{Due}
+pub use Rattle.late_certificate.specs.declared.due.Due.{Due}
 use Rattle.late_certificate.specs.declared.due.Due.TheVariants as due
 
 -- what is due behind a line, if the line may stand here

@@ -1,16 +1,14 @@
 -- The text of a late certificate.
 use Rattle.std.specs.Prelude.{◌≡◌, ℕ, List, [], ◌∷◌, ◌++◌, map, Option, Some, None, All}
 use Rattle.std.specs.List.{AllByRecursion}
-use Rattle.plain_texts.specs.Lines.{IsLine, lines_text}
-use Rattle.mode_network.specs.Journeys.{Route}
-use Rattle.journey.specs.Ends.{HasTimes}
+use Rattle.plain_texts.specs.{IsLine, lines_text}
+use Rattle.mode_network.specs.{Route}
+use Rattle.journey.specs.{HasTimes}
 use Rattle.certificate.specs.declared.lines.Line.TheVariants as usual
-use Rattle.certificate.specs.Lines.{HasLabelTime}
-use Rattle.certificate.specs.Texts.{label_lines}
-use Rattle.latest_departure.specs.ValidLate.{LateClaim}
-use Rattle.late_certificate.specs.declared.lines.Line.{Line}
+use Rattle.certificate.specs.{HasLabelTime, label_lines}
+use Rattle.latest_departure.specs.{LateClaim}
+use Rattle.late_certificate.specs.{declared.lines.Line.Line, Lines.FitsLine, Lines.spelled}
 use Rattle.late_certificate.specs.declared.lines.Line.TheVariants as line
-use Rattle.late_certificate.specs.Lines.{FitsLine, spelled}
 
 -- the head and the query line
 abbrev pub front_lines : List ℕ → List Line

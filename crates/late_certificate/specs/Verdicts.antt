@@ -1,24 +1,10 @@
 -- The first clause of a late certificate that fails, at the first place where it does.
 use Rattle.std.specs.Prelude.{◌≡◌, ℕ, ◌⊎◌, List, Option, Some, None, IfSome, All}
-use Rattle.product_search.specs.declared.label.Label.{Label}
-use Rattle.product_search.specs.declared.verdict.LabelVerdict.TheVariants.{Open}
-use Rattle.product_search.specs.Closed.{IsVerdict}
-use Rattle.mode_network.specs.NetworkLists.{NetworkLists}
-use Rattle.mode_network.specs.Rules.{IsNetwork}
-use Rattle.mode_network.specs.Journeys.{Route}
-use Rattle.journey.specs.declared.query.Query.{Query}
-use Rattle.certificate.specs.declared.verdict.CertVerdict.{CertVerdict}
-use Rattle.certificate.specs.declared.verdict.CertVerdict.TheVariants.{Valid, Invalid}
-use Rattle.journey.specs.Ends.{HasTimes}
-use Rattle.journey.specs.Best.{Asked, Asks}
-use Rattle.certificate.specs.Lines.{HasLabelTime}
-use Rattle.certificate.specs.declared.claimed.Arrival.TheVariants.{By}
-use Rattle.certificate.specs.declared.claimed.Goal.{Goal}
-use Rattle.certificate.specs.Claimed.{JourneyFails}
-use Rattle.certificate.specs.Verdicts.{LineFails}
-use Rattle.latest_departure.specs.Late.{deadline, first_moment, IsInTime}
-use Rattle.latest_departure.specs.Latest.{graph_of, labels_of}
-use Rattle.latest_departure.specs.ValidLate.{LateClaim, LateSetting, LateHolds, late_bound, IsValidLate}
+use Rattle.product_search.specs.{Label, Open, IsVerdict}
+use Rattle.mode_network.specs.{NetworkLists.NetworkLists, IsNetwork, Route}
+use Rattle.journey.specs.{Query, HasTimes, Asked, Asks}
+use Rattle.certificate.specs.{CertVerdict, Invalid, HasLabelTime, By, Goal, JourneyFails, LineFails, declared.verdict.CertVerdict.TheVariants.Valid}
+use Rattle.latest_departure.specs.{deadline, first_moment, IsInTime, graph_of, labels_of, LateClaim, LateSetting, LateHolds, late_bound, IsValidLate}
 
 -- what is claimed of a query
 abbrev pub claim_on : Query → Option Route → List Label → LateClaim

@@ -1,18 +1,10 @@
 -- What `certify-latest` writes within a limit on labels.
-use Rattle.std.proofs.Common.{◌≢◌, ℕ, ◌≤◌, ◌∙◌, inl, inr, List, length, Option, Some, None, ap, subst}
-use Rattle.std.specs.Prelude.{IfSome}
+use Rattle.plan_base.proofs.Common.{◌≢◌, ℕ, ◌≤◌, ◌∙◌, inl, inr, List, length, Option, Some, None, ap, subst, IfSome}
 use Rattle.mode_network.specs.NetworkLists.{NetworkLists}
-use Rattle.journey.specs.declared.answer.BlockBody.TheVariants.{Refused}
-use Rattle.journey.specs.declared.fault.QueryFault.{QueryFault}
-use Rattle.journey.specs.declared.fault.QueryFault.TheVariants.{OutOfMemory}
-use Rattle.journey.specs.Best.{Asks, IsRefusedBlock}
-use Rattle.journey.specs.Blocks.{IsBlockText}
-use Rattle.journey.specs.Queries.{IsRefusal, IsRefused}
-use Rattle.journey.specs.Texts.{block_text}
-use Rattle.latest_departure.specs.ValidLate.{LateClaim}
-use Rattle.late_certificate.specs.Texts.{IsLateText}
-use Rattle.late_certificate.specs.Certified.{IsLateCertificateOf}
-use Rattle.late_commands.specs.Outputs.{IsLateCertifiedWithin}
+use Rattle.journey.specs.{Refused, QueryFault, OutOfMemory, Asks, IsRefusedBlock, IsBlockText, IsRefusal, IsRefused, block_text}
+use Rattle.latest_departure.specs.{LateClaim}
+use Rattle.late_certificate.specs.{IsLateText, IsLateCertificateOf}
+use Rattle.late_commands.specs.{IsLateCertifiedWithin}
 
 module _ (n : NetworkLists) (line out : List ℕ) where
   -- a certificate whose labels are no more than the limit

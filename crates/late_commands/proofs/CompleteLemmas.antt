@@ -1,20 +1,13 @@
 -- A run whose files are there and without fault ends with its work done: each other outcome has a cause that is not there.
-use Rattle.std.proofs.Common.{◌≡◌, ℕ, List, subst}
-use Rattle.mode_network.specs.NetworkLists.{NetworkLists}
-use Rattle.mode_network.specs.Rules.{IsNetwork}
-use Rattle.certificate.specs.declared.verdict.CertFault.TheVariants.{BadLine}
+use Rattle.plan_base.proofs.Common.{◌≡◌, ℕ, List, subst}
+use Rattle.mode_network.specs.{NetworkLists.NetworkLists, IsNetwork}
+use Rattle.certificate.specs.{BadLine}
 use Rattle.certificate.specs.declared.verdict.CertVerdict.TheVariants as verdict
-use Rattle.latest_departure.specs.ValidLate.{LateClaim}
-use Rattle.late_certificate.specs.Texts.{IsLateText}
-use Rattle.late_certificate.specs.Reading.{HasCause}
-use Rattle.late_certificate.specs.Verdicts.{IsLateVerdict}
-use Rattle.late_certificate.proofs.ReadLaws.{again, bad_line_is}
-use Rattle.late_certificate.proofs.UniqueLemmas.{late_verdict_is_unique}
-use Rattle.run_steps.proofs.CertificateComplete.{verified_completes}
-use Rattle.run_steps.proofs.TurnComplete.{answers_completes}
-use Rattle.run_steps.proofs.CompleteSteps.{file_completes, network_completes, writes_completes}
-use Rattle.late_commands.specs.Outputs.{late_certificates}
-use Rattle.late_commands.specs.Complete.{SpellsValidLate, FewCompletes, LatestCompletes, ProfileCompletes, CertifyLatestCompletes, VerifyLatestCompletes}
+use Rattle.latest_departure.specs.{LateClaim}
+use Rattle.late_certificate.specs.{IsLateText, HasCause, IsLateVerdict}
+use Rattle.late_certificate.proofs.{ReadLaws.again, ReadLaws.bad_line_is, UniqueLemmas.late_verdict_is_unique}
+use Rattle.run_steps.proofs.{CertificateComplete.verified_completes, TurnComplete.answers_completes, CompleteSteps.file_completes, CompleteSteps.network_completes, CompleteSteps.writes_completes}
+use Rattle.late_commands.specs.{late_certificates, SpellsValidLate, FewCompletes, LatestCompletes, ProfileCompletes, CertifyLatestCompletes, VerifyLatestCompletes}
 
 -- bytes that spell a valid late certificate have no line that may not stand, and no clause that fails
 spells : (n : NetworkLists) (bytes : List ℕ) → SpellsValidLate n bytes → (line : ℕ) → HasCause bytes (BadLine line) → ⊥

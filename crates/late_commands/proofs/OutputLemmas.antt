@@ -1,16 +1,11 @@
 -- What a late certificate proves is right to say, and can be printed.
-use Rattle.std.proofs.Common.{ℕ, List, Option, Some, None}
-use Rattle.std.specs.Prelude.{IfSome}
-use Rattle.mode_network.specs.NetworkLists.{NetworkLists}
-use Rattle.mode_network.specs.Rules.{IsNetwork}
-use Rattle.mode_network.specs.Journeys.{Route}
-use Rattle.journey.specs.Blocks.{IsPrintable}
-use Rattle.journey.specs.Best.{Asked}
+use Rattle.plan_base.proofs.Common.{ℕ, List, Option, Some, None, IfSome}
+use Rattle.mode_network.specs.{NetworkLists.NetworkLists, IsNetwork, Route}
+use Rattle.journey.specs.{IsPrintable, Asked}
 use Rattle.journey.proofs.CopyLemmas.{copy_in_range}
-use Rattle.latest_departure.specs.Blocks.{IsAnswerBlock}
-use Rattle.latest_departure.specs.ValidLate.{LateClaim, LateHolds, IsValidLate, ProvesLate}
-use Rattle.late_certificate.specs.Texts.{FitsLateResult, IsLateText}
-use Rattle.late_commands.specs.Outputs.{IsLateShown}
+use Rattle.latest_departure.specs.{IsAnswerBlock, LateClaim, LateHolds, IsValidLate, ProvesLate}
+use Rattle.late_certificate.specs.{FitsLateResult, IsLateText}
+use Rattle.late_commands.specs.{IsLateShown}
 
 -- what a certificate claims can be printed
 claimed_printable : (n : NetworkLists) → IsNetwork n → (q : Asked) (result : Option Route) → LateHolds n q result → FitsLateResult result → IfSome result (IsPrintable n)

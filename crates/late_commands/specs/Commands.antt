@@ -1,17 +1,12 @@
 -- What each command says of a run by its outcome.
 use Rattle.std.specs.Prelude.{◌≡◌, ℕ, List, Option}
-use Rattle.plan_base.specs.declared.limits.Caps.{Caps}
-use Rattle.run_steps.specs.Certificates.{SaysVerified}
-use Rattle.journey.specs.Large.{IsBlockUnder}
+use Rattle.plan_base.specs.{Caps}
+use Rattle.run_steps.specs.{SaysVerified, AnswersFile, OnRegion, Saying, WritesText, declared.outcome.FileRole.TheVariants.Queries, declared.limits.Limits.Limits}
+use Rattle.journey.specs.{IsBlockUnder}
 use Rattle.mode_network.specs.NetworkLists.{NetworkLists}
-use Rattle.few_boardings.specs.Blocks.{IsFewBlock}
-use Rattle.latest_departure.specs.Limits.{IsLateBlockWithin}
-use Rattle.departures.specs.Blocks.{IsProfileBlock}
-use Rattle.run_steps.specs.InTurn.{AnswersFile}
-use Rattle.run_steps.specs.declared.outcome.FileRole.TheVariants.{Queries}
-use Rattle.run_steps.specs.declared.limits.Limits.{Limits}
-use Rattle.run_steps.specs.Regions.{OnRegion}
-use Rattle.run_steps.specs.Sayings.{Saying, WritesText}
+use Rattle.few_boardings.specs.{IsFewBlock}
+use Rattle.latest_departure.specs.{IsLateBlockWithin}
+use Rattle.departures.specs.{IsProfileBlock}
 use Rattle.late_commands.specs.Outputs.{IsLateCertified, late_certificates}
 
 -- nothing is counted for a line

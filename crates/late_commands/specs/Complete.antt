@@ -1,12 +1,11 @@
 -- What can be done: the files that a command names are there and without fault.
 use Rattle.std.specs.Prelude.{ℕ, List, Option}
-use Rattle.plan_base.specs.declared.limits.Caps.{Caps}
+use Rattle.plan_base.specs.{Caps}
 use Rattle.mode_network.specs.NetworkLists.{NetworkLists}
-use Rattle.latest_departure.specs.ValidLate.{LateClaim, IsValidLate}
-use Rattle.late_certificate.specs.Texts.{IsLateText}
+use Rattle.latest_departure.specs.{LateClaim, IsValidLate}
+use Rattle.late_certificate.specs.{IsLateText}
 use Rattle.run_steps.specs.declared.outcome.FileRole.TheVariants as role
-use Rattle.run_steps.specs.declared.limits.Limits.{Limits}
-use Rattle.run_steps.specs.Complete.{Files, AreLinesHeld, IsHeld, IsRegionHeld, Completes}
+use Rattle.run_steps.specs.{declared.limits.Limits.Limits, Files, AreLinesHeld, IsHeld, IsRegionHeld, Completes}
 use Rattle.late_commands.specs.Commands.{SaysFew, SaysLatest, SaysProfile, SaysCertifyLatest, SaysVerifyLatest}
 
 -- the bytes spell a late certificate that is valid

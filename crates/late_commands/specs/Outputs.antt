@@ -1,19 +1,12 @@
 -- What `certify-latest` and `verify-latest` write.
 use Rattle.std.specs.Prelude.{◌≡◌, ℕ, ◌⊎◌, List, Option}
 use Rattle.mode_network.specs.NetworkLists.{NetworkLists}
-use Rattle.certificate.specs.declared.verdict.CertFault.TheVariants.{BadLine}
+use Rattle.certificate.specs.{BadLine}
 use Rattle.certificate.specs.declared.verdict.CertVerdict.TheVariants as verdict
-use Rattle.journey.specs.Best.{IsRefusedBlock}
-use Rattle.journey.specs.Large.{IsBlockUnder, stopped_block}
-use Rattle.latest_departure.specs.Blocks.{IsAnswerBlock, IsShownBlock}
-use Rattle.latest_departure.specs.Limits.{IsWithinLateLabels}
-use Rattle.latest_departure.specs.ValidLate.{LateClaim, IsValidLate}
-use Rattle.late_certificate.specs.Texts.{IsLateText}
-use Rattle.late_certificate.specs.Reading.{HasCause}
-use Rattle.late_certificate.specs.Verdicts.{IsLateVerdict}
-use Rattle.late_certificate.specs.Certified.{IsLateCertificateOf}
-use Rattle.run_steps.specs.declared.limits.Limits.{Limits}
-use Rattle.run_steps.specs.Certificates.{CertificateKind}
+use Rattle.journey.specs.{IsRefusedBlock, IsBlockUnder, stopped_block}
+use Rattle.latest_departure.specs.{IsAnswerBlock, IsShownBlock, IsWithinLateLabels, LateClaim, IsValidLate}
+use Rattle.late_certificate.specs.{IsLateText, HasCause, IsLateVerdict, IsLateCertificateOf}
+use Rattle.run_steps.specs.{declared.limits.Limits.Limits, CertificateKind}
 
 -- the text of a valid certificate for the line, whose labels are those of the search; it proves what it claims
 pub record IsLateCertificateFor (n : NetworkLists) (line out : List ℕ) : Type 0 where

@@ -1,32 +1,16 @@
 -- However a timetable sorts the runs into patterns, and however the rows list what leads to a node, the network in mirrored time is the same graph.
-use Rattle.std.proofs.Common.{◌≡◌, ℕ, ◌-◌, ◌<◌, ◌≤◌, ◌⊎◌, inl, inr, length, Option, Some, None, refl, sym, ap, ◌∙◌, subst, arith}
-use Rattle.std.specs.Prelude.{option_map}
-use Rattle.search_laws.specs.LabelLaws.{LabelsMeaning, IsLawfulLabels, HasMove}
-use Rattle.timetable_arcs.specs.declared.trips.Instance.{Instance}
-use Rattle.timetable_arcs.specs.Patterns.{departs}
-use Rattle.mode_network.specs.declared.steps.Step.{Step}
-use Rattle.mode_network.specs.declared.steps.Step.TheVariants.{Wait, Road as TakeRoad, Link as TakeLink, Stand as StandStill, Ride as TakeRide}
-use Rattle.mode_network.specs.NetworkLists.{NetworkLists, nodes_of}
-use Rattle.mode_network.specs.Rules.{IsNetwork}
-use Rattle.mode_network.specs.Journeys.{IsStep}
+use Rattle.plan_base.proofs.Common.{◌≡◌, ℕ, ◌-◌, ◌<◌, ◌≤◌, ◌⊎◌, inl, inr, length, Option, Some, None, refl, sym, ap, ◌∙◌, subst, arith, option_map}
+use Rattle.search_laws.specs.{LabelsMeaning, IsLawfulLabels, HasMove}
+use Rattle.timetable_arcs.specs.{Instance, departs}
+use Rattle.mode_network.specs.{Step, Wait, Link as TakeLink, Stand as StandStill, Ride as TakeRide, nodes_of, IsNetwork, IsStep, declared.steps.Step.TheVariants.Road as TakeRoad, NetworkLists.NetworkLists}
 use Rattle.mode_network.proofs.RuleLemmas.{some_is}
-use Rattle.plain_graph.specs.declared.plain.PlainArc.{PlainArc}
-use Rattle.plain_graph.specs.declared.plain.PlainArc.TheVariants.{Road, Link, Stand, Ride}
-use Rattle.plain_graph.specs.Simulation.{IsNoWait}
-use Rattle.automaton.specs.Written.{written}
-use Rattle.automaton.specs.Collapsed.{collapsed}
+use Rattle.plain_graph.specs.{PlainArc, Road, Link, Stand, Ride, IsNoWait}
+use Rattle.automaton.specs.{written, collapsed}
 use Rattle.automaton.proofs.SameLemmas.{AnswerAlike, positions_alike, collapsed_alike}
-use Rattle.phase_graph.specs.Arcs.{IsArcBy}
-use Rattle.phase_graph.specs.InUse.{Covers, CoverEachOther}
-use Rattle.journey.specs.Best.{Asked}
-use Rattle.latest_departure.specs.Late.{deadline}
-use Rattle.latest_departure.specs.Latest.{ReadsFromEnds, Mirroring, graph_of}
-use Rattle.latest_departure.specs.Reversed.{IsReversed}
-use Rattle.latest_departure.proofs.MirrorLaws.{begins_rise, none_later}
-use Rattle.latest_departure.proofs.OrderLemmas.{le_or_above}
-use Rattle.latest_departure.proofs.ReversedLemmas.{to_below}
-use Rattle.latest_departure.specs.MirrorArcs.{arc_into, mirror_arc, begins, run_by}
-use Rattle.latest_departure.proofs.ArcLemmas.{IsInto, HasStep, all_into, place_into, run_is_by, arc_steps, step_back}
+use Rattle.phase_graph.specs.{IsArcBy, Covers, CoverEachOther}
+use Rattle.journey.specs.{Asked}
+use Rattle.latest_departure.specs.{deadline, ReadsFromEnds, Mirroring, graph_of, IsReversed, arc_into, mirror_arc, begins, run_by}
+use Rattle.latest_departure.proofs.{MirrorLaws.begins_rise, MirrorLaws.none_later, OrderLemmas.le_or_above, ReversedLemmas.to_below, ArcLemmas.IsInto, ArcLemmas.HasStep, ArcLemmas.all_into, ArcLemmas.place_into, ArcLemmas.run_is_by, ArcLemmas.arc_steps, ArcLemmas.step_back}
 
 -- a step with a letter is no wait
 no_wait : (n : NetworkLists) (v t : ℕ) (step : Step) (w u c : ℕ) → IsStep n v t step w u (Some c) → IsNoWait step

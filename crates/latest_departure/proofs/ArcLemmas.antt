@@ -1,36 +1,14 @@
 -- The arcs into a node are those of the network that lead there, and each begins as a step of the network does.
-use Rattle.std.proofs.Common.{◌≡◌, ℕ, ◌+◌, ◌-◌, ◌<◌, ◌≤◌, ◌&&◌, ◌==◌, not, nat_le, Bool, true, false, List, [], length, Option, Some, None, cond, refl, sym, ap, ◌∙◌, subst, arith}
-use Rattle.std.specs.Prelude.{All, Contains, option_map}
-use Rattle.std.specs.List.{range_with_len}
-use Rattle.std.proofs.lemmas.Bool.{leb-true, le-leb}
-use Rattle.std.proofs.lemmas.List.{get_or_default}
-use Rattle.std.proofs.lemmas.List.Elements.{All-nil, All-cons, All-map, All-contains, All-from_get_or}
-use Rattle.std.proofs.lemmas.List.FromFn.{length-range_with_len, get_or-range_with_len, length-map-range_with_len, get_or-map-range_with_len}
-use Rattle.timetable_arcs.specs.declared.trips.Instance.{Instance}
-use Rattle.timetable_arcs.specs.declared.rides.Ride.{Ride as RideCalls}
-use Rattle.timetable_arcs.specs.Patterns.{TableLists, IsIn, pattern_trip, departs, arrives, next_run, last_run, no_call}
-use Rattle.timetable_arcs.specs.Rides.{IsRideAt}
-use Rattle.timetable_arcs.specs.Table.{IsTable}
-use Rattle.timetable_arcs.proofs.TripLemmas.{known_stops}
-use Rattle.timetable_arcs.proofs.TableLemmas.{next_in_words, last_in_words, trip_of_pattern, never_back}
-use Rattle.mode_network.specs.declared.nodes.Arc.{Arc}
-use Rattle.mode_network.specs.declared.steps.Step.{Step}
-use Rattle.plan_base.specs.Modes.{number_of_mode}
-use Rattle.plan_base.specs.declared.modes.Mode.{Mode}
-use Rattle.mode_network.specs.NetworkLists.{NetworkLists, nodes_of, letter_at, mode_at, stop_node}
-use Rattle.mode_network.specs.Rules.{IsNetwork, joins_modes, is_same_mode}
-use Rattle.mode_network.specs.Timetables.{IsTimetableOf}
-use Rattle.mode_network.specs.Journeys.{IsStep}
+use Rattle.plan_base.proofs.Common.{◌≡◌, ℕ, ◌+◌, ◌-◌, ◌<◌, ◌≤◌, ◌&&◌, ◌==◌, not, nat_le, Bool, true, false, List, [], length, Option, Some, None, cond, refl, sym, ap, ◌∙◌, subst, arith, All, Contains, option_map, range_with_len, leb-true, le-leb, get_or_default, All-nil, All-cons, All-map, All-contains, All-from_get_or, length-range_with_len, get_or-range_with_len, length-map-range_with_len, get_or-map-range_with_len}
+use Rattle.timetable_arcs.specs.{Instance, Ride as RideCalls, TableLists, IsIn, pattern_trip, departs, arrives, next_run, last_run, no_call, IsRideAt, IsTable}
+use Rattle.timetable_arcs.proofs.{TripLemmas.known_stops, TableLemmas.next_in_words, TableLemmas.last_in_words, TableLemmas.trip_of_pattern, TableLemmas.never_back}
+use Rattle.mode_network.specs.{Arc, Step, nodes_of, letter_at, mode_at, stop_node, IsNetwork, joins_modes, is_same_mode, IsTimetableOf, IsStep, NetworkLists.NetworkLists}
+use Rattle.plan_base.specs.{number_of_mode, Mode}
 use Rattle.mode_network.proofs.RuleLemmas.{both, some_is, same_mode_is}
-use Rattle.plain_graph.specs.declared.plain.PlainArc.{PlainArc}
-use Rattle.plain_graph.specs.declared.plain.PlainArc.TheVariants.{Road, Link, Stand, Ride}
-use Rattle.plain_graph.specs.PlainArcs.{pattern_call, plain_arc, graph_arc, arrival, run_at, no_arc}
-use Rattle.plain_graph.specs.inside.OutArcs.{IsArcFrom, IsRideFrom, IsOut, out_of}
-use Rattle.plain_graph.specs.Simulation.{IsNoWait}
+use Rattle.plain_graph.specs.{PlainArc, Road, Link, Stand, Ride, pattern_call, plain_arc, graph_arc, arrival, run_at, no_arc, IsNoWait, inside.IsArcFrom, inside.IsRideFrom, inside.IsOut, inside.out_of}
 use Rattle.plain_graph.proofs.Same.{step_at, steps_are_arcs}
-use Rattle.latest_departure.specs.declared.source.Source.{Source}
+use Rattle.latest_departure.specs.{Source, plain_arcs_of, arcs_into, arc_into, mirror_arc, run_by, begins, AlightsAt, LeadsInto, AreSources}
 use Rattle.latest_departure.specs.declared.source.Source.TheVariants as source
-use Rattle.latest_departure.specs.MirrorArcs.{plain_arcs_of, arcs_into, arc_into, mirror_arc, run_by, begins, AlightsAt, LeadsInto, AreSources}
 use Rattle.latest_departure.proofs.OrderLemmas.{no_later, all_of_pieces, in_piece}
 
 -- the arc leads to v; a ride does so from an earlier call of its pattern, where one may or may not board

@@ -1,25 +1,15 @@
 -- What the search for a deadline finds can be certified.
-use Rattle.std.proofs.Common.{◌≡◌, ℕ, ◌-◌, ◌≤◌, List, Option, Some, None, refl, subst, arith}
-use Rattle.mode_expression.specs.Form.{IsUsable}
+use Rattle.plan_base.proofs.Common.{◌≡◌, ℕ, ◌-◌, ◌≤◌, List, Option, Some, None, refl, subst, arith}
+use Rattle.mode_expression.specs.{IsUsable}
 use Rattle.mode_expression.proofs.ParseLemmas.{expressions_are_usable}
-use Rattle.search_laws.specs.Walks.{ArrivesAt}
-use Rattle.product_search.specs.declared.label.Label.{Label}
-use Rattle.product_search.specs.Closed.{IsClosed}
-use Rattle.product_search.specs.Answer.{IsArrival}
-use Rattle.automaton.specs.CollapsedLaws.{collapsed_lawful}
-use Rattle.mode_network.specs.NetworkLists.{NetworkLists}
-use Rattle.mode_network.specs.Journeys.{Route}
+use Rattle.search_laws.specs.{ArrivesAt}
+use Rattle.product_search.specs.{Label, IsClosed, IsArrival}
+use Rattle.automaton.specs.{collapsed_lawful}
+use Rattle.mode_network.specs.{NetworkLists.NetworkLists, Route}
 use Rattle.mode_network.proofs.RuleLemmas.{some_is}
-use Rattle.journey.specs.Best.{Asked, Asks}
-use Rattle.journey.specs.Rides.{KeepsRules}
-use Rattle.latest_departure.specs.Late.{deadline, first_moment, IsInTime}
-use Rattle.latest_departure.specs.Latest.{IsLate, AreLateLabels, span, Mirroring, graph_of, labels_of}
-use Rattle.latest_departure.specs.ValidLate.{LateHolds, late_bound, IsValidLate}
-use Rattle.latest_departure.proofs.ClosedLemmas.{closed_before, search_closed}
-use Rattle.latest_departure.proofs.DeadlineLemmas.{deadline_is_late}
-use Rattle.latest_departure.proofs.LateLemmas.{arrives, in_time_of}
-use Rattle.latest_departure.proofs.MirrorWalks.{steps_rise}
-use Rattle.latest_departure.proofs.ValidLemmas.{asked_small, reads_of, over_lawful, over_journeys, over_walks}
+use Rattle.journey.specs.{Asked, Asks, KeepsRules}
+use Rattle.latest_departure.specs.{deadline, first_moment, IsInTime, IsLate, AreLateLabels, span, Mirroring, graph_of, labels_of, LateHolds, late_bound, IsValidLate}
+use Rattle.latest_departure.proofs.{ClosedLemmas.closed_before, ClosedLemmas.search_closed, DeadlineLemmas.deadline_is_late, LateLemmas.arrives, LateLemmas.in_time_of, MirrorWalks.steps_rise, ValidLemmas.asked_small, ValidLemmas.reads_of, ValidLemmas.over_lawful, ValidLemmas.over_journeys, ValidLemmas.over_walks}
 
 module _ (n : NetworkLists) (rules : KeepsRules n) (line : List ℕ) (q : Asked) (asks : Asks n line q) (m : Mirroring n q) where
   usable : IsUsable q.form

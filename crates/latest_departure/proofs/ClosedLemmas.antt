@@ -1,21 +1,10 @@
 -- The labels of a search that are least below a time, before which no accepted walk arrives, are closed.
-use Rattle.std.proofs.Common.{◌≡◌, ℕ, zero, suc, ◌+◌, ◌-◌, ◌<◌, ◌≤◌, ◌⊎◌, ◌==◌, ◌&&◌, true, false, Bool, List, [], ◌∷◌, length, Option, Some, None, inl, inr, refl, ap, ◌∙◌, arith}
-use Rattle.std.specs.Prelude.{All, Contains, slice_index_or}
-use Rattle.std.proofs.lemmas.Bool.Decides.{nat_tests}
-use Rattle.std.proofs.lemmas.List.Elements.{All-contains, Contains-append_left, Contains-append_right, Contains-append_cases}
-use Rattle.search_laws.specs.GraphLaws.{GraphMeaning, IsLawfulGraph}
-use Rattle.search_laws.specs.LabelLaws.{LabelsMeaning, IsLawfulLabels}
-use Rattle.search_laws.specs.Walks.{arc, ArrivesAt}
-use Rattle.product_search.specs.declared.label.Label.{Label}
-use Rattle.product_search.specs.Reach.{IsReachedAt, IsLeastAt}
-use Rattle.product_search.specs.Listed.{label_of, AreAscendingLabels, AreLeastLabels}
-use Rattle.product_search.specs.Answer.{IsArrival}
-use Rattle.product_search.specs.Closed.{IsListedBy, start_pairs, IsInOrderAt, StartIsListedAt, IsNoEndAt, ArcsAreListedAt, IsClosed}
-use Rattle.product_search.proofs.ClosureLemmas.{walk_stays, all_start, all_after}
-use Rattle.product_search.proofs.ReachLemmas.{reached_more}
+use Rattle.plan_base.proofs.Common.{◌≡◌, ℕ, zero, suc, ◌+◌, ◌-◌, ◌<◌, ◌≤◌, ◌⊎◌, ◌==◌, ◌&&◌, true, false, Bool, List, [], ◌∷◌, length, Option, Some, None, inl, inr, refl, ap, ◌∙◌, arith, All, Contains, slice_index_or, nat_tests, All-contains, Contains-append_left, Contains-append_right, Contains-append_cases}
+use Rattle.search_laws.specs.{GraphMeaning, IsLawfulGraph, LabelsMeaning, IsLawfulLabels, arc, ArrivesAt}
+use Rattle.product_search.specs.{Label, IsReachedAt, IsLeastAt, label_of, AreAscendingLabels, AreLeastLabels, IsArrival, IsListedBy, start_pairs, IsInOrderAt, StartIsListedAt, IsNoEndAt, ArcsAreListedAt, IsClosed}
+use Rattle.product_search.proofs.{ClosureLemmas.walk_stays, ClosureLemmas.all_start, ClosureLemmas.all_after, ReachLemmas.reached_more}
 use Rattle.mode_network.proofs.RuleLemmas.{both}
-use Rattle.latest_departure.proofs.OrderLemmas.{le_or_above, head_is}
-use Rattle.latest_departure.proofs.ReversedLemmas.{reads_below}
+use Rattle.latest_departure.proofs.{OrderLemmas.le_or_above, OrderLemmas.head_is, ReversedLemmas.reads_below}
 
 -- ---- a product state has a label in a list, or has none
 

@@ -1,21 +1,13 @@
 -- A deadline that a query line says is not before the region's first date, and small.
-use Rattle.std.proofs.Common.{◌≡◌, ℕ, ◌+◌, ◌^◌, ◌<◌, ◌≤◌, ◌⊎◌, ◌==◌, ◌&&◌, nat_le, nat_lt, nat_eq, Bool, true, false, cond, List, [], ◌∷◌, length, Option, Some, None, Ok, inl, inr, refl, subst, arith}
-use Rattle.std.specs.Prelude.{option_and_then, option_map, ok_or}
-use Rattle.std.proofs.lemmas.Bool.{ltb-true, leb-true}
-use Rattle.std.proofs.lemmas.Bool.Decides.{nat_tests}
-use Rattle.std.proofs.lemmas.List.Quantifiers.{position-Some}
-use Rattle.plain_texts.specs.FixedDecimal.{fixed_at}
+use Rattle.plan_base.proofs.Common.{◌≡◌, ℕ, ◌+◌, ◌^◌, ◌<◌, ◌≤◌, ◌⊎◌, ◌==◌, ◌&&◌, nat_le, nat_lt, nat_eq, Bool, true, false, cond, List, [], ◌∷◌, length, Option, Some, None, Ok, inl, inr, refl, subst, arith, option_and_then, option_map, ok_or, ltb-true, leb-true, nat_tests, position-Some}
+use Rattle.plain_texts.specs.{fixed_at}
 use Rattle.plain_texts.proofs.FixedDecimal.{fixed_takes}
-use Rattle.service_days.specs.Days.{AreDays, AreRisingDays, base_of, day_with_date}
+use Rattle.service_days.specs.{AreDays, AreRisingDays, base_of, day_with_date, date_at}
 use Rattle.mode_expression.specs.Form.{Form}
-use Rattle.mode_network.specs.declared.endpoints.Endpoint.{Endpoint}
-use Rattle.mode_network.specs.NetworkLists.{NetworkLists}
+use Rattle.mode_network.specs.{Endpoint, NetworkLists.NetworkLists}
 use Rattle.mode_network.proofs.RuleLemmas.{both, some_is}
-use Rattle.journey.specs.declared.fault.QueryFault.TheVariants.{OutOfRange}
-use Rattle.service_days.specs.Dates.{date_at}
-use Rattle.journey.specs.Shapes.{part_at, millis_at, time_at, departure_on, departs_on}
-use Rattle.journey.specs.Queries.{IsQuery}
-use Rattle.latest_departure.specs.Late.{first_moment}
+use Rattle.journey.specs.{OutOfRange, part_at, millis_at, time_at, departure_on, departs_on, IsQuery}
+use Rattle.latest_departure.specs.{first_moment}
 use Rattle.latest_departure.proofs.OrderLemmas.{le_or_above}
 
 bound : {X Y Z : Type 0} (f : X → Option Y) (o : Option X) (y : Y) → option_and_then f o ≡ Some y → ((x : X) → o ≡ Some x → f x ≡ Some y → Z) → Z

@@ -1,23 +1,15 @@
 -- What the search from a departure finds leaves then, and arrives first.
-use Rattle.std.proofs.Common.{ℕ, ◌^◌, ◌<◌, List, Option, Some, None, subst}
-use Rattle.std.specs.Prelude.{◌↔◌}
-use Rattle.search_laws.specs.LabelLaws.{LabelsMeaning, Accepts}
-use Rattle.search_laws.specs.Walks.{ArrivesAt}
-use Rattle.search_laws.specs.Collapse.{collapse}
-use Rattle.product_search.specs.declared.label.Walk.{Walk}
-use Rattle.product_search.specs.Answer.{IsArrival, IsWalkFor}
-use Rattle.plain_graph.specs.PlainArcs.{plain_meaning}
-use Rattle.plain_graph.specs.Simulation.{JourneysAreWalks}
-use Rattle.mode_expression.specs.Form.{Form, IsWordOf}
-use Rattle.timetable_arcs.specs.Patterns.{TableLists}
-use Rattle.mode_network.specs.NetworkLists.{NetworkLists}
-use Rattle.mode_network.specs.Rules.{IsNetwork}
-use Rattle.mode_network.specs.Journeys.{Route}
-use Rattle.journey.specs.Best.{Asked, Answers}
-use Rattle.journey.specs.CopyLists.{AreTheCopies}
-use Rattle.unpack.specs.Unpacking.{letters_of}
+use Rattle.plan_base.proofs.Common.{ℕ, ◌^◌, ◌<◌, List, Option, Some, None, subst, ◌↔◌}
+use Rattle.search_laws.specs.{LabelsMeaning, Accepts, ArrivesAt, collapse}
+use Rattle.product_search.specs.{Walk, IsArrival, IsWalkFor}
+use Rattle.plain_graph.specs.{plain_meaning, JourneysAreWalks}
+use Rattle.mode_expression.specs.{Form.Form, IsWordOf}
+use Rattle.timetable_arcs.specs.{TableLists}
+use Rattle.mode_network.specs.{NetworkLists.NetworkLists, IsNetwork, Route}
+use Rattle.journey.specs.{Asked, Answers, AreTheCopies}
+use Rattle.unpack.specs.{letters_of}
 use Rattle.unpack.proofs.TakenLemmas as taken
-use Rattle.latest_departure.specs.inside.Forward.{IsFirstIfAny, IsJourneyUnpacked}
+use Rattle.latest_departure.specs.inside.{IsFirstIfAny, IsJourneyUnpacked}
 
 -- the automaton reads each word whose collapse the form denotes
 abbrev pub IsReaderOf : Form → LabelsMeaning → Type 0

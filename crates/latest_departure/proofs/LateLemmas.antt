@@ -1,29 +1,13 @@
 -- A least mirrored moment is that of a latest departure.
-use Rattle.std.proofs.Common.{◌≡◌, ℕ, ◌-◌, ◌^◌, ◌≤◌, ◌∙◌, ◌==◌, ◌&&◌, nat_lt, cond, Bool, true, false, List, [], ◌∷◌, ◌++◌, Option, Some, None, refl, sym, ap, subst, arith}
-use Rattle.std.specs.Prelude.{◌↔◌, reverse}
-use Rattle.std.specs.List.{range_with_len}
-use Rattle.std.proofs.lemmas.Bool.Decides.{nat_tests}
-use Rattle.std.proofs.lemmas.List.{reverse-reverse, reverse-append}
-use Rattle.std.proofs.lemmas.List.Sums.{sum_by-le}
-use Rattle.std.proofs.lemmas.List.FromFn.{length-range_with_len}
-use Rattle.search_laws.specs.Collapse.{collapse}
-use Rattle.search_laws.specs.GraphLaws.{GraphMeaning}
-use Rattle.search_laws.specs.LabelLaws.{LabelsMeaning, Accepts}
-use Rattle.search_laws.specs.Walks.{wait, ArrivesAt, word_from}
-use Rattle.product_search.specs.Answer.{IsArrival}
-use Rattle.automaton.specs.Collapsed.{collapsed, AcceptsCollapsed}
-use Rattle.mode_expression.specs.Form.{Form, IsWordOf}
-use Rattle.mode_network.specs.NetworkLists.{NetworkLists}
-use Rattle.mode_network.specs.declared.steps.Step.{Step}
-use Rattle.mode_network.specs.Journeys.{Route, AreSteps}
+use Rattle.plan_base.proofs.Common.{◌≡◌, ℕ, ◌-◌, ◌^◌, ◌≤◌, ◌∙◌, ◌==◌, ◌&&◌, nat_lt, cond, Bool, true, false, List, [], ◌∷◌, ◌++◌, Option, Some, None, refl, sym, ap, subst, arith, ◌↔◌, reverse, range_with_len, nat_tests, reverse-reverse, reverse-append, sum_by-le, length-range_with_len}
+use Rattle.search_laws.specs.{collapse, GraphMeaning, LabelsMeaning, Accepts, wait, ArrivesAt, word_from}
+use Rattle.product_search.specs.{IsArrival}
+use Rattle.automaton.specs.{collapsed, AcceptsCollapsed}
+use Rattle.mode_expression.specs.{Form.Form, IsWordOf}
+use Rattle.mode_network.specs.{NetworkLists.NetworkLists, Step, Route, AreSteps}
 use Rattle.mode_network.proofs.RuleLemmas.{both}
-use Rattle.journey.specs.Best.{Asked, Answers}
-use Rattle.journey.specs.CopyLists.{AreTheCopies}
-use Rattle.latest_departure.specs.inside.Forward.{IsFirst, IsFirstIfAny, leaving}
-use Rattle.latest_departure.specs.Late.{deadline, first_moment, IsInTime, IsBestLate, HasNoneInTime}
-use Rattle.latest_departure.specs.Latest.{IsLate, span}
-use Rattle.latest_departure.specs.Mirrored.{MirrorsAreJourneys, JourneysAreMirrors}
-use Rattle.latest_departure.specs.Reversed.{AcceptsReversed, all_moves}
+use Rattle.journey.specs.{Asked, Answers, AreTheCopies}
+use Rattle.latest_departure.specs.{inside.IsFirst, inside.IsFirstIfAny, inside.leaving, deadline, first_moment, IsInTime, IsBestLate, HasNoneInTime, IsLate, span, MirrorsAreJourneys, JourneysAreMirrors, AcceptsReversed, all_moves}
 
 pub few_moves : (l : LabelsMeaning) → l.states ≤ 201 → ((q : ℕ) → l.moves q ≤ 200) → all_moves l ≤ 2 ^ 16
 few_moves l states moves =

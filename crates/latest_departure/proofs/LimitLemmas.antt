@@ -1,24 +1,11 @@
 -- What a search for a deadline shows of the number of its labels, and what block is right then.
-use Rattle.std.proofs.Common.{◌≡◌, ℕ, ◌≤◌, inl, inr, List, Option, Some, None, subst, sym}
-use Rattle.std.specs.Prelude.{IfSome}
-use Rattle.product_search.specs.Answer.{IsArrival}
-use Rattle.product_search.specs.Listed.{HasLeastLabels}
-use Rattle.product_search.specs.Limits.{HasMoreLabels}
-use Rattle.mode_network.specs.NetworkLists.{NetworkLists}
-use Rattle.mode_network.specs.Journeys.{Route}
-use Rattle.journey.specs.Best.{Asked, Asks, IsRefusedBlock}
-use Rattle.journey.specs.Large.{stopped_block}
-use Rattle.automaton.specs.Collapsed.{collapsed}
-use Rattle.latest_departure.specs.declared.search.LateSearch.{LateSearch}
-use Rattle.latest_departure.specs.BackLists.{BackLists, IsBackwards, mirrored}
-use Rattle.latest_departure.specs.Blocks.{IsAnswerBlock}
-use Rattle.latest_departure.specs.Late.{deadline}
-use Rattle.latest_departure.specs.Latest.{IsLate, span}
-use Rattle.latest_departure.specs.Limits.{IsLateBlockWithin, LateSearchHasAtMost, LateSearchHasMore}
-use Rattle.latest_departure.specs.Meanings.{reversed_meaning}
-use Rattle.latest_departure.specs.Searches.{IsSearchFor}
-use Rattle.latest_departure.proofs.SearchLemmas.{over}
-use Rattle.latest_departure.proofs.TextLemmas.{late_right}
+use Rattle.plan_base.proofs.Common.{◌≡◌, ℕ, ◌≤◌, inl, inr, List, Option, Some, None, subst, sym, IfSome}
+use Rattle.product_search.specs.{IsArrival, HasLeastLabels, HasMoreLabels}
+use Rattle.mode_network.specs.{NetworkLists.NetworkLists, Route}
+use Rattle.journey.specs.{Asked, Asks, IsRefusedBlock, stopped_block}
+use Rattle.automaton.specs.{collapsed}
+use Rattle.latest_departure.specs.{LateSearch, IsBackwards, mirrored, IsAnswerBlock, deadline, IsLate, span, IsLateBlockWithin, LateSearchHasAtMost, LateSearchHasMore, reversed_meaning, IsSearchFor, BackLists.BackLists}
+use Rattle.latest_departure.proofs.{SearchLemmas.over, TextLemmas.late_right}
 
 module _ (b : BackLists) (keeps : IsBackwards b) (q : Asked) (s : LateSearch) (is : IsSearchFor b q s) where
   pub search_has_more : (limit : ℕ)

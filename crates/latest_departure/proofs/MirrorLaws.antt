@@ -1,27 +1,13 @@
 -- A network in mirrored time is a lawful graph.
-use Rattle.std.proofs.Common.{◌≡◌, ℕ, ◌+◌, ◌-◌, ◌^◌, ◌<◌, ◌≤◌, List, length, Option, Some, None, refl, sym, ap, subst, arith}
-use Rattle.std.specs.Prelude.{IfSome, option_map}
-use Rattle.std.proofs.lemmas.List.Elements.{All-contains}
-use Rattle.search_laws.specs.Letters.{IsLetter}
-use Rattle.search_laws.specs.GraphLaws.{IsLawfulGraph, HasArc}
-use Rattle.timetable_arcs.specs.declared.trips.Instance.{Instance}
-use Rattle.timetable_arcs.specs.Patterns.{TableLists, pattern_trip, departs, no_call}
-use Rattle.timetable_arcs.specs.Table.{IsTable}
-use Rattle.timetable_arcs.proofs.TripLemmas.{known_stops}
-use Rattle.timetable_arcs.proofs.TableLemmas.{trip_of_pattern}
-use Rattle.mode_network.specs.declared.nodes.Arc.{Arc}
-use Rattle.mode_network.specs.NetworkLists.{NetworkLists, nodes_of, letter_at}
-use Rattle.mode_network.specs.Rules.{IsNetwork}
-use Rattle.mode_network.specs.Timetables.{IsTimetableOf}
+use Rattle.plan_base.proofs.Common.{◌≡◌, ℕ, ◌+◌, ◌-◌, ◌^◌, ◌<◌, ◌≤◌, List, length, Option, Some, None, refl, sym, ap, subst, arith, IfSome, option_map, All-contains}
+use Rattle.search_laws.specs.{IsLetter, IsLawfulGraph, HasArc}
+use Rattle.timetable_arcs.specs.{Instance, TableLists, pattern_trip, departs, no_call, IsTable}
+use Rattle.timetable_arcs.proofs.{TripLemmas.known_stops, TableLemmas.trip_of_pattern}
+use Rattle.mode_network.specs.{Arc, nodes_of, letter_at, IsNetwork, IsTimetableOf, NetworkLists.NetworkLists}
 use Rattle.mode_network.proofs.RuleLemmas.{some_is, links_in_range, arcs_in_range, letter_is_road, nodes_hold_roads}
-use Rattle.plain_graph.specs.declared.plain.PlainArc.{PlainArc}
-use Rattle.plain_graph.specs.declared.plain.PlainArc.TheVariants.{Road, Link, Stand, Ride}
-use Rattle.plain_graph.specs.PlainArcs.{pattern_call}
-use Rattle.plain_graph.specs.Lawful.{transit_letter, stops_in_range}
-use Rattle.latest_departure.specs.declared.source.Source.{Source}
-use Rattle.latest_departure.specs.MirrorArcs.{arc_into, mirror_arc, run_by, begins, mirror_meaning, AreSources}
-use Rattle.latest_departure.proofs.OrderLemmas.{no_later}
-use Rattle.latest_departure.proofs.ArcLemmas.{IsInto, all_into, run_is_by, run_there, rides_on}
+use Rattle.plain_graph.specs.{PlainArc, Road, Link, Stand, Ride, pattern_call, transit_letter, stops_in_range}
+use Rattle.latest_departure.specs.{Source, arc_into, mirror_arc, run_by, begins, mirror_meaning, AreSources}
+use Rattle.latest_departure.proofs.{OrderLemmas.no_later, ArcLemmas.IsInto, ArcLemmas.all_into, ArcLemmas.run_is_by, ArcLemmas.run_there, ArcLemmas.rides_on}
 
 module _ (n : NetworkLists) (network : IsNetwork n) (t : TableLists) (table : IsTable t) (of : IsTimetableOf n t) where
   comes_from_node : (v : ℕ) (a : PlainArc) → v < length (nodes_of n) → IsInto n t v a → (mirror_arc n t v a).to < length (nodes_of n)

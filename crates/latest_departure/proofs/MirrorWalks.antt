@@ -1,28 +1,13 @@
 -- The walks of a network in mirrored time are its journeys, told from their ends.
-use Rattle.std.proofs.Common.{◌≡◌, ℕ, ◌-◌, ◌≤◌, List, [], ◌∷◌, ◌++◌, Option, Some, None, refl, sym, ap, ◌∙◌, subst, arith}
-use Rattle.std.specs.Prelude.{option_to_list, reverse}
-use Rattle.std.proofs.lemmas.List.{append_assoc, append-nil, reverse-append}
-use Rattle.search_laws.specs.Walks.{WalkStep, wait, arc, IsWalk, word_from}
-use Rattle.search_laws.specs.GraphLaws.{GraphMeaning, IsLawfulGraph}
+use Rattle.plan_base.proofs.Common.{◌≡◌, ℕ, ◌-◌, ◌≤◌, List, [], ◌∷◌, ◌++◌, Option, Some, None, refl, sym, ap, ◌∙◌, subst, arith, option_to_list, reverse, append_assoc, append-nil, reverse-append}
+use Rattle.search_laws.specs.{WalkStep, wait, arc, IsWalk, word_from, GraphMeaning, IsLawfulGraph}
 use Rattle.search_laws.proofs.WalkLemmas.{walk_rises}
-use Rattle.timetable_arcs.specs.Patterns.{TableLists}
-use Rattle.timetable_arcs.specs.Table.{IsTable}
-use Rattle.mode_network.specs.declared.steps.Step.{Step}
-use Rattle.mode_network.specs.declared.steps.Step.TheVariants.{Wait, Road as TakeRoad, Link as TakeLink, Stand as StandStill, Ride as TakeRide}
-use Rattle.mode_network.specs.NetworkLists.{NetworkLists}
-use Rattle.mode_network.specs.Rules.{IsNetwork}
-use Rattle.mode_network.specs.Timetables.{IsTimetableOf}
-use Rattle.mode_network.specs.Journeys.{IsStep, AreSteps}
-use Rattle.plain_graph.specs.declared.plain.PlainArc.TheVariants.{Stand}
-use Rattle.plain_graph.specs.PlainArcs.{plain_meaning}
-use Rattle.plain_graph.specs.Lawful.{plain_lawful}
-use Rattle.plain_graph.specs.Simulation.{IsNoWait}
+use Rattle.timetable_arcs.specs.{TableLists, IsTable}
+use Rattle.mode_network.specs.{Step, Wait, Link as TakeLink, Stand as StandStill, Ride as TakeRide, IsNetwork, IsTimetableOf, IsStep, AreSteps, declared.steps.Step.TheVariants.Road as TakeRoad, NetworkLists.NetworkLists}
+use Rattle.plain_graph.specs.{Stand, plain_meaning, plain_lawful, IsNoWait}
 use Rattle.plain_graph.proofs.Same.{journeys_are_walks}
-use Rattle.latest_departure.specs.declared.source.Source.{Source}
-use Rattle.latest_departure.specs.MirrorArcs.{arc_into, mirror_arc, begins, mirror_meaning, AreSources}
-use Rattle.latest_departure.specs.Mirrored.{HasSteps, MirrorsAreJourneys, HasMirror, JourneysAreMirrors}
-use Rattle.latest_departure.proofs.ArcLemmas.{all_into, HasStep, arc_steps, HasBack, step_back, place_into}
-use Rattle.latest_departure.proofs.MirrorLaws.{node_into}
+use Rattle.latest_departure.specs.{Source, arc_into, mirror_arc, begins, mirror_meaning, AreSources, HasSteps, MirrorsAreJourneys, HasMirror, JourneysAreMirrors}
+use Rattle.latest_departure.proofs.{ArcLemmas.all_into, ArcLemmas.HasStep, ArcLemmas.arc_steps, ArcLemmas.HasBack, ArcLemmas.step_back, ArcLemmas.place_into, MirrorLaws.node_into}
 
 -- one letter at most is the same from either end
 one_letter : (letter : Option ℕ) → reverse (option_to_list letter) ≡ option_to_list letter

@@ -1,13 +1,6 @@
 -- Which of two runs of a pattern is behind the other, and lists of sources.
-use Rattle.std.proofs.Common.{◌≡◌, ℕ, ◌<◌, ◌≤◌, ◌⊎◌, Bool, true, false, nat_lt, List, [], ◌∷◌, length, inl, inr, refl, sym, ◌∙◌, subst, arith}
-use Rattle.std.specs.Prelude.{All, Contains, slice_index_or}
-use Rattle.std.specs.List.{flat_map}
-use Rattle.std.proofs.lemmas.Bool.{ltb-true, ltb-false}
-use Rattle.std.proofs.lemmas.List.{get_or_default}
-use Rattle.std.proofs.lemmas.List.Elements.{All-nil, All-append, Contains-append_left, Contains-append_right, Contains-append_cases}
-use Rattle.timetable_arcs.specs.declared.trips.Instance.{Instance}
-use Rattle.timetable_arcs.specs.Patterns.{TableLists, IsIn, IsBehind, pattern_trip, runs_of, departs}
-use Rattle.timetable_arcs.specs.Table.{IsTable}
+use Rattle.plan_base.proofs.Common.{◌≡◌, ℕ, ◌<◌, ◌≤◌, ◌⊎◌, Bool, true, false, nat_lt, List, [], ◌∷◌, length, inl, inr, refl, sym, ◌∙◌, subst, arith, All, Contains, slice_index_or, flat_map, ltb-true, ltb-false, get_or_default, All-nil, All-append, Contains-append_left, Contains-append_right, Contains-append_cases}
+use Rattle.timetable_arcs.specs.{Instance, TableLists, IsIn, IsBehind, pattern_trip, runs_of, departs, IsTable}
 use Rattle.timetable_arcs.proofs.RunLemmas.{IsNoLater, in_order, within_patterns}
 
 -- a number is at most another, or above it

@@ -1,10 +1,8 @@
 -- The reversed automaton accepts the reverses of the words that the other accepts.
-use Rattle.std.proofs.Common.{◌≡◌, ℕ, ◌<◌, IsTrue, List, [], ◌∷◌, refl, sym, subst}
-use Rattle.std.specs.Prelude.{reverse}
-use Rattle.std.proofs.lemmas.List.{reverse-append, reverse-reverse}
-use Rattle.search_laws.specs.LabelLaws.{LabelsMeaning, IsLawfulLabels, HasMove, Reads, Accepts}
+use Rattle.plan_base.proofs.Common.{◌≡◌, ℕ, ◌<◌, IsTrue, List, [], ◌∷◌, refl, sym, subst, reverse, reverse-append, reverse-reverse}
+use Rattle.search_laws.specs.{LabelsMeaning, IsLawfulLabels, HasMove, Reads, Accepts}
 use Rattle.search_laws.proofs.WalkLemmas.{reads_more}
-use Rattle.latest_departure.specs.Reversed.{IsReversed, AcceptsReversed}
+use Rattle.latest_departure.specs.{IsReversed, AcceptsReversed}
 
 module _ (l : LabelsMeaning) (lawful : IsLawfulLabels l) where
   pub to_below : (q c p : ℕ) → q < l.states → HasMove l q c p → p < l.states

@@ -1,25 +1,11 @@
 -- The arcs of a row, entry by entry.
-use Rattle.std.proofs.Common.{◌≡◌, ℕ, suc, ◌+◌, ◌^◌, ◌<◌, List, [], ◌∷◌, ◌++◌, length, map, take, drop, get_or, refl, sym, ap, ◌∙◌, subst, arith, length-append}
-use Rattle.std.specs.Prelude.{slice_index_or, sum_by}
-use Rattle.std.specs.List.{flat_map}
-use Rattle.std.proofs.Common.{drop-cons, add-one}
-use Rattle.std.proofs.lemmas.Grind.{flat_map-append}
-use Rattle.std.proofs.lemmas.List.{get_or_append_left, get_or-append-add, get_or-map, length-map, map-append, take-append-drop}
-use Rattle.std.proofs.lemmas.List.Sums.{sum_by-cons}
-use Rattle.std.proofs.lemmas.List.FromFn.{length-map-range_with_len, get_or-map-range_with_len}
-use Rattle.timetable_arcs.specs.Patterns.{TableLists}
-use Rattle.timetable_arcs.specs.Table.{IsTable}
+use Rattle.plan_base.proofs.Common.{◌≡◌, ℕ, suc, ◌+◌, ◌^◌, ◌<◌, List, [], ◌∷◌, ◌++◌, length, map, take, drop, get_or, refl, sym, ap, ◌∙◌, subst, arith, length-append, slice_index_or, sum_by, flat_map, drop-cons, add-one, flat_map-append, get_or_append_left, get_or-append-add, get_or-map, length-map, map-append, take-append-drop, sum_by-cons, length-map-range_with_len, get_or-map-range_with_len}
+use Rattle.timetable_arcs.specs.{TableLists, IsTable}
 use Rattle.timetable_arcs.proofs.TableLemmas.{pattern_short}
-use Rattle.mode_network.specs.NetworkLists.{NetworkLists, nodes_of}
-use Rattle.plain_graph.specs.declared.plain.PlainArc.{PlainArc}
-use Rattle.plain_graph.specs.declared.plain.PlainArc.TheVariants.{Road, Link, Stand, Ride}
-use Rattle.plain_graph.specs.Rides.{IsKnownRide}
-use Rattle.latest_departure.specs.declared.source.Source.{Source}
+use Rattle.mode_network.specs.{NetworkLists.NetworkLists, nodes_of}
+use Rattle.plain_graph.specs.{PlainArc, Road, Link, Stand, Ride, IsKnownRide}
+use Rattle.latest_departure.specs.{Source, Entry, plain_arcs_of, count_of, plain_arc_of, arc_into, LeadsInto, AreSources, row_entries, sources_at, source_of, entry_count, RidesAreKnown}
 use Rattle.latest_departure.specs.declared.source.Source.TheVariants as source
-use Rattle.latest_departure.specs.declared.source.Entry.{Entry}
-use Rattle.latest_departure.specs.MirrorArcs.{plain_arcs_of, count_of, plain_arc_of, arc_into, LeadsInto, AreSources}
-use Rattle.latest_departure.specs.Entries.{row_entries, sources_at}
-use Rattle.latest_departure.specs.Known.{source_of, entry_count, RidesAreKnown}
 use Rattle.latest_departure.proofs.ArcLemmas.{IsInto, all_into}
 
 -- ---- one source

@@ -1,24 +1,13 @@
 -- What a search for a deadline finds.
-use Rattle.std.proofs.Common.{ℕ, ◌-◌, ◌≤◌, List, Option, Some, None}
-use Rattle.mode_expression.specs.Form.{IsUsable}
-use Rattle.search_laws.specs.GraphLaws.{GraphMeaning}
-use Rattle.search_laws.specs.LabelLaws.{LabelsMeaning}
-use Rattle.product_search.specs.Answer.{IsArrival}
-use Rattle.mode_network.specs.declared.steps.Step.{Step}
-use Rattle.mode_network.specs.Journeys.{Route, AreSteps}
-use Rattle.journey.specs.Best.{Asked}
-use Rattle.automaton.specs.Collapsed.{collapsed}
-use Rattle.latest_departure.specs.declared.search.LateSearch.{LateSearch}
-use Rattle.latest_departure.specs.BackLists.{BackLists, IsBackwards, source_rows, mirrored}
-use Rattle.latest_departure.specs.Late.{deadline, HasNoneInTime}
-use Rattle.latest_departure.specs.Latest.{IsLate, span, Mirroring}
-use Rattle.latest_departure.specs.inside.Forward.{IsFirstIfAny, leaving}
-use Rattle.latest_departure.specs.Mirrored.{MirrorsAreJourneys, JourneysAreMirrors}
-use Rattle.latest_departure.specs.Meanings.{reversed_meaning}
-use Rattle.latest_departure.specs.Searches.{IsSearchFor}
-use Rattle.latest_departure.proofs.LateLemmas.{IsMirrorOf, none_in_time, late_found}
-use Rattle.latest_departure.proofs.MirrorWalks.{steps_rise}
-use Rattle.latest_departure.proofs.ValidLemmas.{reads_of, over_walks, over_journeys}
+use Rattle.plan_base.proofs.Common.{ℕ, ◌-◌, ◌≤◌, List, Option, Some, None}
+use Rattle.mode_expression.specs.{IsUsable}
+use Rattle.search_laws.specs.{GraphMeaning, LabelsMeaning}
+use Rattle.product_search.specs.{IsArrival}
+use Rattle.mode_network.specs.{Step, Route, AreSteps}
+use Rattle.journey.specs.{Asked}
+use Rattle.automaton.specs.{collapsed}
+use Rattle.latest_departure.specs.{LateSearch, IsBackwards, source_rows, mirrored, deadline, HasNoneInTime, IsLate, span, Mirroring, MirrorsAreJourneys, JourneysAreMirrors, reversed_meaning, IsSearchFor, BackLists.BackLists, inside.IsFirstIfAny, inside.leaving}
+use Rattle.latest_departure.proofs.{LateLemmas.IsMirrorOf, LateLemmas.none_in_time, LateLemmas.late_found, MirrorWalks.steps_rise, ValidLemmas.reads_of, ValidLemmas.over_walks, ValidLemmas.over_journeys}
 
 module _ (b : BackLists) (keeps : IsBackwards b) (q : Asked) (s : LateSearch) (is : IsSearchFor b q s) where
   -- what the search goes over

@@ -1,22 +1,10 @@
 -- The text of a late block.
-use Rattle.std.proofs.Common.{◌≡◌, ℕ, List, ◌++◌, append_assoc, Option, Some, None, ◌≢◌, inl, inr, refl, ap, ◌∙◌}
-use Rattle.std.specs.Prelude.{IfSome}
-use Rattle.std.specs.Prelude.{codes}
-use Rattle.plain_texts.specs.Lines.{with_feed}
-use Rattle.service_days.specs.Clock.{clock_text_of}
-use Rattle.mode_network.specs.NetworkLists.{NetworkLists}
-use Rattle.mode_network.specs.Journeys.{Route}
-use Rattle.journey.specs.Blocks.{AddsText}
-use Rattle.journey.specs.declared.answer.BlockBody.TheVariants.{Refused}
-use Rattle.journey.specs.declared.fault.QueryFault.{QueryFault}
-use Rattle.journey.specs.declared.fault.QueryFault.TheVariants.{OutOfMemory}
-use Rattle.journey.specs.Queries.{IsRefusal}
-use Rattle.journey.specs.Texts.{IsJourneyText, block_text}
-use Rattle.journey.specs.Best.{Asked, Asks, IsRefusedBlock}
-use Rattle.journey.specs.Blocks.{IsBlockText, IsPrintable}
-use Rattle.latest_departure.specs.Late.{IsToldResult}
-use Rattle.latest_departure.specs.Latest.{IsLate}
-use Rattle.latest_departure.specs.Blocks.{IsLateJourneyText, IsAnswerBlock, IsLateBlock}
+use Rattle.plan_base.proofs.Common.{◌≡◌, ℕ, List, ◌++◌, append_assoc, Option, Some, None, ◌≢◌, inl, inr, refl, ap, ◌∙◌, IfSome, codes}
+use Rattle.plain_texts.specs.{with_feed}
+use Rattle.service_days.specs.{clock_text_of}
+use Rattle.mode_network.specs.{NetworkLists.NetworkLists, Route}
+use Rattle.journey.specs.{AddsText, Refused, QueryFault, OutOfMemory, IsRefusal, IsJourneyText, block_text, Asked, Asks, IsRefusedBlock, IsBlockText, IsPrintable}
+use Rattle.latest_departure.specs.{IsToldResult, IsLate, IsLateJourneyText, IsAnswerBlock, IsLateBlock}
 
 pub late_told : (n : NetworkLists) (j : Route) (old now new : List ℕ) → now ≡ old ++ with_feed (codes "depart " ++ clock_text_of n.days j.at) → AddsText (IsJourneyText n j) now new
     → AddsText (IsLateJourneyText n j) old new

@@ -1,22 +1,9 @@
 -- The states that are made stand for the reversed automaton.
-use Rattle.std.proofs.Common.{◌≡◌, ℕ, ◌+◌, ◌^◌, ◌<◌, ◌≤◌, ◌==◌, Bool, true, false, cond, IsBitSet, List, [], ◌∷◌, ◌++◌, length, get_or, map, refl, sym, ap, ◌∙◌, subst, arith}
-use Rattle.std.specs.Prelude.{All, Contains, slice_index_or}
-use Rattle.std.specs.List.{flat_map, range_with_len, sum_by}
-use Rattle.std.proofs.lemmas.Bool.Decides.{nat_tests}
-use Rattle.std.proofs.lemmas.Grind.{flat_map-append}
-use Rattle.std.proofs.lemmas.List.{get_or_past, append_assoc, append-nil, get_or_default, get_or-map, map-append}
-use Rattle.std.proofs.lemmas.List.Concat.{length-flat_map}
-use Rattle.std.proofs.lemmas.List.Sums.{sum_by-le, sum_by-le-sum_by}
-use Rattle.std.proofs.lemmas.List.Elements.{All-nil, All-cons}
-use Rattle.std.proofs.lemmas.List.FromFn.{length-range_with_len, get_or-range_with_len, length-map-range_with_len, get_or-map-range_with_len, map-range_with_len_more}
-use Rattle.search_laws.specs.Letters.{IsLetterSet}
-use Rattle.search_laws.specs.declared.labels.Move.{Move}
-use Rattle.search_laws.specs.LabelLaws.{LabelsMeaning, IsLawfulLabels, HasMove, IsMove}
+use Rattle.plan_base.proofs.Common.{◌≡◌, ℕ, ◌+◌, ◌^◌, ◌<◌, ◌≤◌, ◌==◌, Bool, true, false, cond, IsBitSet, List, [], ◌∷◌, ◌++◌, length, get_or, map, refl, sym, ap, ◌∙◌, subst, arith, All, Contains, slice_index_or, flat_map, range_with_len, sum_by, nat_tests, flat_map-append, get_or_past, append_assoc, append-nil, get_or_default, get_or-map, map-append, length-flat_map, sum_by-le, sum_by-le-sum_by, All-nil, All-cons, length-range_with_len, get_or-range_with_len, length-map-range_with_len, get_or-map-range_with_len, map-range_with_len_more}
+use Rattle.search_laws.specs.{IsLetterSet, Move, LabelsMeaning, IsLawfulLabels, HasMove, IsMove}
 use Rattle.search_laws.proofs.WayLemmas.{range_more}
-use Rattle.automaton.specs.States.{no_move}
-use Rattle.latest_departure.specs.Reversed.{IsReversed, StateLists, all_moves, turned_move, turned, turned_from, turned_below, no_state, states_meaning, turned_state}
-use Rattle.latest_departure.specs.declared.reversed.State.{State}
-use Rattle.latest_departure.specs.StateViews.{view_of}
+use Rattle.automaton.specs.{no_move}
+use Rattle.latest_departure.specs.{IsReversed, StateLists, all_moves, turned_move, turned, turned_from, turned_below, no_state, states_meaning, turned_state, State, view_of}
 use Rattle.latest_departure.proofs.OrderLemmas.{all_of_pieces, in_piece}
 
 -- ---- ranges

@@ -1,30 +1,16 @@
 -- A late certificate that is valid proves what it claims.
-use Rattle.std.proofs.Common.{ℕ, ◌-◌, ◌≤◌, ◌<◌, ◌^◌, List, Option, Some, None, arith}
-use Rattle.search_laws.specs.GraphLaws.{GraphMeaning, IsLawfulGraph}
-use Rattle.search_laws.specs.LabelLaws.{LabelsMeaning}
-use Rattle.product_search.specs.Closed.{NoneArrivesBefore}
+use Rattle.plan_base.proofs.Common.{ℕ, ◌-◌, ◌≤◌, ◌<◌, ◌^◌, List, Option, Some, None, arith}
+use Rattle.search_laws.specs.{GraphMeaning, IsLawfulGraph, LabelsMeaning}
+use Rattle.product_search.specs.{NoneArrivesBefore}
 use Rattle.product_search.proofs.BoundLemmas.{bound}
-use Rattle.automaton.specs.Collapsed.{collapsed}
-use Rattle.automaton.proofs.CollapsedLemmas.{accepts_collapsed}
-use Rattle.automaton.proofs.AcceptLemmas.{positions_accept}
-use Rattle.mode_expression.specs.Form.{IsUsable}
+use Rattle.automaton.specs.{collapsed}
+use Rattle.automaton.proofs.{CollapsedLemmas.accepts_collapsed, AcceptLemmas.positions_accept}
+use Rattle.mode_expression.specs.{IsUsable}
 use Rattle.mode_expression.proofs.ParseLemmas.{expressions_are_usable}
-use Rattle.mode_network.specs.NetworkLists.{NetworkLists}
-use Rattle.mode_network.specs.Rules.{IsNetwork}
-use Rattle.mode_network.specs.declared.steps.Step.{Step}
-use Rattle.mode_network.specs.Journeys.{Route, AreSteps}
-use Rattle.journey.specs.Rides.{KeepsRules}
-use Rattle.journey.specs.Best.{Asked, Asks}
-use Rattle.journey.specs.CopyLists.{AreTheCopies}
-use Rattle.latest_departure.specs.Late.{deadline, IsLateResult}
-use Rattle.latest_departure.specs.Latest.{ReadsFromEnds, Mirroring, graph_of, labels_of}
-use Rattle.latest_departure.specs.Mirrored.{JourneysAreMirrors, MirrorsAreJourneys}
-use Rattle.latest_departure.specs.ValidLate.{LateHolds, late_bound, ValidLateProves}
-use Rattle.latest_departure.proofs.DeadlineLemmas.{deadline_is_small}
-use Rattle.latest_departure.proofs.LateLemmas.{IsMirrorOf, mirror_of, arrives}
-use Rattle.latest_departure.proofs.MirrorLaws.{mirror_lawful}
-use Rattle.latest_departure.proofs.MirrorWalks.{steps_rise, mirrors_are_journeys, journeys_are_mirrors}
-use Rattle.latest_departure.proofs.ReversedLemmas.{accepts_reversed}
+use Rattle.mode_network.specs.{NetworkLists.NetworkLists, IsNetwork, Step, Route, AreSteps}
+use Rattle.journey.specs.{KeepsRules, Asked, Asks, AreTheCopies}
+use Rattle.latest_departure.specs.{deadline, IsLateResult, ReadsFromEnds, Mirroring, graph_of, labels_of, JourneysAreMirrors, MirrorsAreJourneys, LateHolds, late_bound, ValidLateProves}
+use Rattle.latest_departure.proofs.{DeadlineLemmas.deadline_is_small, LateLemmas.IsMirrorOf, LateLemmas.mirror_of, LateLemmas.arrives, MirrorLaws.mirror_lawful, MirrorWalks.steps_rise, MirrorWalks.mirrors_are_journeys, MirrorWalks.journeys_are_mirrors, ReversedLemmas.accepts_reversed}
 
 module _ (n : NetworkLists) (q : Asked) (g : GraphMeaning) (l : LabelsMeaning) (starts targets : List ℕ) (reads : IsMirrorOf q.form l)
     (journeys : JourneysAreMirrors n g (deadline q)) (to : AreTheCopies n q.to starts) (from : AreTheCopies n q.from targets)

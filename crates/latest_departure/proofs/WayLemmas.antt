@@ -1,26 +1,13 @@
 -- The arcs out of a node in mirrored time, row by row.
-use Rattle.std.proofs.Common.{◌≡◌, ℕ, zero, suc, ◌+◌, ◌-◌, ◌<◌, ◌≤◌, ◌&&◌, nat_le, Bool, true, false, cond, List, [], ◌∷◌, ◌++◌, length, take, get_or, Option, Some, None, refl, sym, ap, ◌∙◌, subst, arith, append_assoc, append-nil}
-use Rattle.std.specs.Prelude.{slice_index_or, sum_by, option_map}
-use Rattle.std.specs.List.{flat_map, range_with_len}
-use Rattle.search_laws.specs.Ways.{is_open, way_if, open_way, way_at, ways_from, ways_of}
-use Rattle.search_laws.specs.declared.graph.Way.{Way}
+use Rattle.plan_base.proofs.Common.{◌≡◌, ℕ, zero, suc, ◌+◌, ◌-◌, ◌<◌, ◌≤◌, ◌&&◌, nat_le, Bool, true, false, cond, List, [], ◌∷◌, ◌++◌, length, take, get_or, Option, Some, None, refl, sym, ap, ◌∙◌, subst, arith, append_assoc, append-nil, slice_index_or, sum_by, option_map, flat_map, range_with_len}
+use Rattle.search_laws.specs.{is_open, way_if, open_way, way_at, ways_from, ways_of, Way}
 use Rattle.search_laws.proofs.WayLemmas.{ways_more, ways_split}
-use Rattle.timetable_arcs.specs.declared.trips.Instance.{Instance}
-use Rattle.timetable_arcs.specs.Patterns.{TableLists, pattern_trip, last_run, departs}
+use Rattle.timetable_arcs.specs.{Instance, TableLists, pattern_trip, last_run, departs}
 use Rattle.mode_network.specs.NetworkLists.{NetworkLists}
-use Rattle.plain_graph.specs.declared.plain.PlainArc.{PlainArc}
-use Rattle.plain_graph.specs.declared.plain.PlainArc.TheVariants.{Road, Link, Stand, Ride}
-use Rattle.plain_graph.specs.PlainArcs.{pattern_call}
-use Rattle.latest_departure.specs.declared.source.Source.{Source}
+use Rattle.plain_graph.specs.{PlainArc, Road, Link, Stand, Ride, pattern_call}
+use Rattle.latest_departure.specs.{Source, Entry, count_of, plain_arc_of, arcs_into, arc_into, mirror_arc, mirror_meaning, begins, row_entries, source_rows, mirrored, entry_count, inside.mirror_ride_ways, inside.mirror_run_ways, inside.ride_calls, inside.source_ways, BackLists.BackLists}
 use Rattle.latest_departure.specs.declared.source.Source.TheVariants as source
-use Rattle.latest_departure.specs.declared.source.Entry.{Entry}
-use Rattle.latest_departure.specs.MirrorArcs.{count_of, plain_arc_of, arcs_into, arc_into, mirror_arc, mirror_meaning, begins}
-use Rattle.latest_departure.specs.inside.MirrorWays.{mirror_ride_ways, mirror_run_ways, ride_calls, source_ways}
-use Rattle.latest_departure.specs.Entries.{row_entries}
-use Rattle.latest_departure.specs.BackLists.{BackLists, source_rows, mirrored}
-use Rattle.latest_departure.specs.Known.{entry_count}
-use Rattle.latest_departure.proofs.RowLemmas.{arcs_along, total, source_at}
-use Rattle.latest_departure.proofs.TurnedLemmas.{pieces_more}
+use Rattle.latest_departure.proofs.{RowLemmas.arcs_along, RowLemmas.total, RowLemmas.source_at, TurnedLemmas.pieces_more}
 
 -- ---- places of a row
 take_all : (k : ℕ) (row : List Entry) → length row ≤ k → take k row ≡ row

@@ -1,7 +1,6 @@
 -- What is made to read the words of an expression from their ends.
-use Rattle.search_laws.specs.LabelLaws.{LabelsMeaning}
-use Rattle.automaton.specs.Written.{written}
-use Rattle.automaton.specs.States.{IsPositionAutomaton}
+use Rattle.search_laws.specs.{LabelsMeaning}
+use Rattle.automaton.specs.{written, IsPositionAutomaton}
 use Rattle.mode_expression.specs.Form.{Form}
 use Rattle.latest_departure.specs.Reversed.{IsReversed}
 

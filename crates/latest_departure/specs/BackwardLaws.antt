@@ -1,12 +1,11 @@
 -- What is known to be the reverse is seen to be. These are proofs, which a ghost member cites; nothing is defined here that a contract means.
 use Rattle.std.proofs.Props.{props}
 use Rattle.std.proofs.Math.Logic.{∥∥₁_elim, ∥∥₁_map}
-use Rattle.search_laws.specs.LabelLaws.{LabelsMeaning}
-use Rattle.automaton.specs.Written.{written}
+use Rattle.search_laws.specs.{LabelsMeaning}
+use Rattle.automaton.specs.{written}
 use Rattle.mode_expression.specs.Form.{Form}
-use Rattle.kept_automata.specs.KnownLaws.{known_move, known_positions}
-use Rattle.latest_departure.specs.Backward.{IsReversedFor}
-use Rattle.latest_departure.specs.Reversed.{IsReversed}
+use Rattle.kept_automata.specs.{known_move, known_positions}
+use Rattle.latest_departure.specs.{Backward.IsReversedFor, Reversed.IsReversed}
 
 known_turned : (l r : LabelsMeaning) → ∥ IsReversed l r ∥₁ → IsReversed l r
 known_turned l r known = record {

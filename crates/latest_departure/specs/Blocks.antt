@@ -1,12 +1,9 @@
 -- The block of a query line that asks for the latest departure.
 use Rattle.std.specs.Prelude.{◌≡◌, ℕ, Option, Some, None, List, ◌++◌, codes}
-use Rattle.plain_texts.specs.Lines.{with_feed}
-use Rattle.service_days.specs.Clock.{clock_text_of}
-use Rattle.mode_network.specs.NetworkLists.{NetworkLists}
-use Rattle.mode_network.specs.Journeys.{Route}
-use Rattle.journey.specs.Best.{Asked, IsAnsweredBlock, IsRightBlock}
-use Rattle.journey.specs.Blocks.{IsFramed}
-use Rattle.journey.specs.Texts.{IsJourneyText}
+use Rattle.plain_texts.specs.{with_feed}
+use Rattle.service_days.specs.{clock_text_of}
+use Rattle.mode_network.specs.{NetworkLists.NetworkLists, Route}
+use Rattle.journey.specs.{Asked, IsAnsweredBlock, IsRightBlock, IsFramed, IsJourneyText}
 use Rattle.latest_departure.specs.Late.{IsToldResult, IsLateResult}
 
 -- what is printed of a journey: when it departs, and then what any block prints of it

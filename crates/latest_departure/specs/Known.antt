@@ -1,15 +1,10 @@
 -- What a network in mirrored time keeps of its rows: each ride is one of a pattern, and few arcs lead to a node.
 use Rattle.std.specs.Prelude.{ℕ, ◌<◌, ◌^◌, List, length, sum_by}
 use Rattle.std.proofs.Props.{props}
-use Rattle.timetable_arcs.specs.Patterns.{TableLists}
-use Rattle.plain_graph.specs.declared.plain.PlainArc.{PlainArc}
-use Rattle.plain_graph.specs.declared.plain.PlainArc.TheVariants.{Road, Link, Stand, Ride}
-use Rattle.plain_graph.specs.Rides.{IsKnownRide}
-use Rattle.latest_departure.specs.declared.source.Source.{Source}
+use Rattle.timetable_arcs.specs.{TableLists}
+use Rattle.plain_graph.specs.{PlainArc, Road, Link, Stand, Ride, IsKnownRide}
+use Rattle.latest_departure.specs.{declared.source.Source.Source, declared.source.Entry.Entry, MirrorArcs.count_of, MirrorArcs.arcs_into, MirrorArcs.arc_into, Entries.row_entries}
 use Rattle.latest_departure.specs.declared.source.Source.TheVariants as source
-use Rattle.latest_departure.specs.declared.source.Entry.{Entry}
-use Rattle.latest_departure.specs.MirrorArcs.{count_of, arcs_into, arc_into}
-use Rattle.latest_departure.specs.Entries.{row_entries}
 
 abbrev pub source_of : Entry → Source
 source_of entry = entry.source

@@ -1,11 +1,8 @@
 -- The latest departure for a deadline. Of a query line the date and the time are the deadline.
 use Rattle.std.specs.Prelude.{◌≡◌, ℕ, ◌≤◌, List, Option, Some, None, slice_index}
-use Rattle.mode_expression.specs.Form.{IsWordOf}
-use Rattle.mode_network.specs.NetworkLists.{NetworkLists}
-use Rattle.mode_network.specs.Journeys.{Route, IsJourney}
-use Rattle.mode_network.specs.Copies.{IsCopy}
-use Rattle.journey.specs.Boarded.{BoardsOnTime}
-use Rattle.journey.specs.Best.{Asked}
+use Rattle.mode_expression.specs.{IsWordOf}
+use Rattle.mode_network.specs.{NetworkLists.NetworkLists, Route, IsJourney, IsCopy}
+use Rattle.journey.specs.{BoardsOnTime, Asked}
 
 abbrev pub deadline : Asked → ℕ
 deadline q = q.depart

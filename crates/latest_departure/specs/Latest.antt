@@ -1,25 +1,12 @@
 -- What is answered for a deadline: the best journey, and the labels of the search.
 use Rattle.std.specs.Prelude.{ℕ, ◌-◌, ◌<◌, List, length, All, Option, Some, None}
-use Rattle.search_laws.specs.GraphLaws.{GraphMeaning}
-use Rattle.search_laws.specs.LabelLaws.{LabelsMeaning, IsLawfulLabels}
-use Rattle.product_search.specs.declared.label.Label.{Label}
-use Rattle.product_search.specs.Listed.{AreLeastLabels}
-use Rattle.product_search.specs.Answer.{IsArrival}
-use Rattle.automaton.specs.Written.{written}
-use Rattle.automaton.specs.States.{IsPositionAutomaton}
-use Rattle.automaton.specs.Collapsed.{collapsed, FitsCollapsed}
-use Rattle.timetable_arcs.specs.Patterns.{TableLists}
-use Rattle.timetable_arcs.specs.Table.{IsTable}
-use Rattle.mode_network.specs.NetworkLists.{NetworkLists, nodes_of}
-use Rattle.mode_network.specs.Timetables.{IsTimetableOf}
-use Rattle.mode_network.specs.Journeys.{Route}
-use Rattle.journey.specs.Best.{Asked}
-use Rattle.journey.specs.Blocks.{IsPrintable}
-use Rattle.journey.specs.CopyLists.{AreTheCopies}
-use Rattle.latest_departure.specs.declared.source.Source.{Source}
-use Rattle.latest_departure.specs.Late.{IsToldLate, HasNoneInTime, deadline, first_moment}
-use Rattle.latest_departure.specs.Reversed.{IsReversed}
-use Rattle.latest_departure.specs.MirrorArcs.{mirror_meaning, AreSources}
+use Rattle.search_laws.specs.{GraphMeaning, LabelsMeaning, IsLawfulLabels}
+use Rattle.product_search.specs.{Label, AreLeastLabels, IsArrival}
+use Rattle.automaton.specs.{written, IsPositionAutomaton, collapsed, FitsCollapsed}
+use Rattle.timetable_arcs.specs.{TableLists, IsTable}
+use Rattle.mode_network.specs.{NetworkLists.NetworkLists, nodes_of, IsTimetableOf, Route}
+use Rattle.journey.specs.{Asked, IsPrintable, AreTheCopies}
+use Rattle.latest_departure.specs.{declared.source.Source.Source, Late.IsToldLate, Late.HasNoneInTime, Late.deadline, Late.first_moment, Reversed.IsReversed, MirrorArcs.mirror_meaning, MirrorArcs.AreSources}
 
 -- a best journey for the deadline, whose rides are boarded when they depart; or None where no journey is in time
 abbrev pub IsLate : NetworkLists → Asked → Option Route → Type 0

@@ -1,14 +1,9 @@
 -- What is right of a query line whose search for the latest departure may have so many labels, and no more.
 use Rattle.std.specs.Prelude.{◌≡◌, ℕ, ◌≤◌, ◌⊎◌, List, length, Option, Some, None}
-use Rattle.product_search.specs.declared.label.Label.{Label}
-use Rattle.product_search.specs.Limits.{HasMoreLabels}
+use Rattle.product_search.specs.{Label, HasMoreLabels}
 use Rattle.mode_network.specs.NetworkLists.{NetworkLists}
-use Rattle.journey.specs.declared.fault.QueryFault.{QueryFault}
-use Rattle.journey.specs.Queries.{IsRefused}
-use Rattle.journey.specs.Best.{Asked, Asks}
-use Rattle.journey.specs.Large.{stopped_block}
-use Rattle.latest_departure.specs.Blocks.{IsLateBlock}
-use Rattle.latest_departure.specs.Latest.{AreLateLabels, Mirroring, graph_of, labels_of, span}
+use Rattle.journey.specs.{QueryFault, IsRefused, Asked, Asks, stopped_block}
+use Rattle.latest_departure.specs.{Blocks.IsLateBlock, Latest.AreLateLabels, Latest.Mirroring, Latest.graph_of, Latest.labels_of, Latest.span}
 
 -- the search through mirrored time has more labels than so many
 pub record LateSearchHasMore (n : NetworkLists) (q : Asked) (limit : ℕ) : Type 0 where

@@ -1,15 +1,10 @@
 -- A network in mirrored time, where the moment s stands for a deadline less s: out of each node what leads to it.
-use Rattle.std.specs.Prelude.{◌≡◌, ℕ, ◌+◌, ◌-◌, ◌<◌, true, nat_le, ◌&&◌, List, [], ◌∷◌, length, map, slice_index_or, All, Contains, Option, Some, None, option_map, if◌then◌else◌}
-use Rattle.std.specs.List.{flat_map, range_with_len}
-use Rattle.search_laws.specs.GraphLaws.{GraphMeaning}
-use Rattle.search_laws.specs.declared.graph.GraphArc.{GraphArc}
-use Rattle.timetable_arcs.specs.declared.trips.Instance.{Instance}
-use Rattle.timetable_arcs.specs.declared.rides.Ride.{Ride as RideCalls}
-use Rattle.timetable_arcs.specs.Patterns.{TableLists, pattern_trip, last_run, departs}
-use Rattle.mode_network.specs.NetworkLists.{NetworkLists, nodes_of, letter_at, stop_node}
-use Rattle.plain_graph.specs.PlainArcs.{pattern_call}
-use Rattle.plain_graph.specs.declared.plain.PlainArc.{PlainArc}
-use Rattle.plain_graph.specs.declared.plain.PlainArc.TheVariants.{Road, Link, Stand, Ride}
+use Rattle.std.specs.Prelude.{◌≡◌, ℕ, ◌+◌, ◌-◌, ◌<◌, true, nat_le, ◌&&◌, List, [], ◌∷◌, length, map, slice_index_or, All, Contains, Option, Some, None, option_map, if◌then◌else◌, flat_map}
+use Rattle.std.specs.List.{range_with_len}
+use Rattle.search_laws.specs.{GraphMeaning, GraphArc}
+use Rattle.timetable_arcs.specs.{Instance, Ride as RideCalls, TableLists, pattern_trip, last_run, departs}
+use Rattle.mode_network.specs.{NetworkLists.NetworkLists, nodes_of, letter_at, stop_node}
+use Rattle.plain_graph.specs.{pattern_call, PlainArc, Road, Link, Stand, Ride}
 use Rattle.latest_departure.specs.declared.source.Source.{Source}
 use Rattle.latest_departure.specs.declared.source.Source.TheVariants as source
 

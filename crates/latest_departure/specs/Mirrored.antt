@@ -1,10 +1,7 @@
 -- The walks of a network in mirrored time are its journeys, told from their ends.
 use Rattle.std.specs.Prelude.{◌≡◌, ℕ, ◌-◌, ◌≤◌, List, reverse}
-use Rattle.search_laws.specs.GraphLaws.{GraphMeaning}
-use Rattle.search_laws.specs.Walks.{WalkStep, IsWalk, word_from}
-use Rattle.mode_network.specs.declared.steps.Step.{Step}
-use Rattle.mode_network.specs.NetworkLists.{NetworkLists}
-use Rattle.mode_network.specs.Journeys.{AreSteps}
+use Rattle.search_laws.specs.{GraphMeaning, WalkStep, IsWalk, word_from}
+use Rattle.mode_network.specs.{Step, AreSteps, NetworkLists.NetworkLists}
 
 -- steps from v at t to w, where they arrive by the time u, with these letters
 pub record HasSteps (n : NetworkLists) (v t w u : ℕ) (letters : List ℕ) : Type 0 where

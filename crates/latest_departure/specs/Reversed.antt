@@ -1,9 +1,8 @@
 -- An automaton that reads words from their ends.
-use Rattle.std.specs.Prelude.{◌≡◌, ℕ, ◌<◌, ◌≤◌, ◌==◌, ◌↔◌, Bool, List, [], ◌∷◌, length, reverse, slice_index_or, false, if◌then◌else◌}
-use Rattle.std.specs.List.{flat_map, range_with_len, sum_by}
-use Rattle.automaton.specs.States.{no_move}
-use Rattle.search_laws.specs.declared.labels.Move.{Move}
-use Rattle.search_laws.specs.LabelLaws.{LabelsMeaning, HasMove, Accepts}
+use Rattle.std.specs.Prelude.{◌≡◌, ℕ, ◌<◌, ◌≤◌, ◌==◌, ◌↔◌, Bool, List, [], ◌∷◌, length, reverse, slice_index_or, false, if◌then◌else◌, flat_map, sum_by}
+use Rattle.std.specs.List.{range_with_len}
+use Rattle.automaton.specs.{no_move}
+use Rattle.search_laws.specs.{Move, LabelsMeaning, HasMove, Accepts}
 
 -- The states are those of another automaton; it starts where that accepts, and nowhere else, accepts where that starts, and each move goes the other way.
 pub record IsReversed (l r : LabelsMeaning) : Type 0 where

@@ -1,11 +1,8 @@
 -- What the search for a deadline holds.
 use Rattle.std.specs.Prelude.{◌≡◌, ◌<◌, ◌≤◌, ◌^◌}
-use Rattle.journey.specs.Best.{Asked}
-use Rattle.latest_departure.specs.declared.search.LateSearch.{LateSearch}
-use Rattle.latest_departure.specs.Late.{deadline, first_moment}
-use Rattle.latest_departure.specs.Latest.{span, ReadsFromEnds, AreSwappedEnds}
-use Rattle.latest_departure.specs.BackLists.{BackLists}
-use Rattle.latest_departure.specs.Meanings.{reversed_meaning}
+use Rattle.journey.specs.{Asked}
+pub use Rattle.latest_departure.specs.declared.search.LateSearch.{LateSearch}
+use Rattle.latest_departure.specs.{Late.deadline, Late.first_moment, Latest.span, Latest.ReadsFromEnds, Latest.AreSwappedEnds, BackLists.BackLists, Meanings.reversed_meaning}
 
 -- it goes over this table, for what is asked
 pub record IsSearchFor (b : BackLists) (q : Asked) (s : LateSearch) : Type 0 where

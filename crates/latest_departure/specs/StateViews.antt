@@ -1,5 +1,5 @@
 -- The states of a reversed automaton as contracts see them, and what it answers.
-use Rattle.latest_departure.specs.declared.reversed.State.{State}
+pub use Rattle.latest_departure.specs.declared.reversed.State.{State}
 use Rattle.latest_departure.specs.Reversed.{StateLists}
 
 abbrev pub view_of : State → StateLists

@@ -1,13 +1,9 @@
 -- When a late certificate is valid, and what it then proves.
 use Rattle.std.specs.Prelude.{ℕ, ◌+◌, ◌-◌, List, Option, Some, None}
-use Rattle.product_search.specs.declared.label.Label.{Label}
-use Rattle.product_search.specs.Closed.{IsClosed}
-use Rattle.mode_network.specs.NetworkLists.{NetworkLists}
-use Rattle.mode_network.specs.Journeys.{Route}
-use Rattle.journey.specs.Rides.{KeepsRules}
-use Rattle.journey.specs.Best.{Asked, Asks}
-use Rattle.latest_departure.specs.Late.{deadline, IsInTime, IsLateResult}
-use Rattle.latest_departure.specs.Latest.{span, Mirroring, graph_of, labels_of}
+use Rattle.product_search.specs.{Label, IsClosed}
+use Rattle.mode_network.specs.{NetworkLists.NetworkLists, Route}
+use Rattle.journey.specs.{KeepsRules, Asked, Asks}
+use Rattle.latest_departure.specs.{Late.deadline, Late.IsInTime, Late.IsLateResult, Latest.span, Latest.Mirroring, Latest.graph_of, Latest.labels_of}
 
 -- what is claimed of a query line: a journey that starts at the latest departure, or that none is in time; and labels in mirrored time
 pub record LateClaim : Type 0 where

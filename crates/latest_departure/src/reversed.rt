@@ -3,7 +3,7 @@
 ghost use Rattle.std.specs.Prelude.{◌≡◌, ℕ, ◌<◌, ◌≤◌, ◌^◌, ◌++◌, map, IfOk, OnOk};
 ghost use Rattle.std.specs.List.{range_with_len};
 ghost use Rattle.search_laws.specs.LabelLaws.{IsLawfulLabels};
-ghost use Rattle.latest_departure.specs.Reversed.{IsReversed, AcceptsReversed, StateLists, all_moves, turned_move, turned_from, turned_below, turned_state, states_meaning};
+ghost use Rattle.latest_departure.specs.Reversed.{IsReversed, AcceptsReversed, all_moves, turned_move, turned_from, turned_below, turned_state, states_meaning};
 ghost use Rattle.latest_departure.specs.StateViews.{view_of};
 
 use search_laws::{Labels, Move};

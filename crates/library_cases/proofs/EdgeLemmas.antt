@@ -1,10 +1,6 @@
 -- Lists of edges, one for each node, are rows.
-use Rattle.std.proofs.Common.{◌≡◌, ℕ, ◌≤◌, ◌^◌, List, length, Option, Some, None, refl, sym, subst, arith}
-use Rattle.std.specs.Prelude.{All, Contains, Vec, slice_get}
-use Rattle.std.specs.declared.alloc.Global.{Global}
-use Rattle.std.proofs.lemmas.List.Elements.{All-contains}
-use Rattle.witness.specs.declared.edge.Edge.{Edge}
-use Rattle.witness.specs.Rows.{AreEdgeRows, IsEdgeOf, items_of}
+use Rattle.plan_base.proofs.Common.{◌≡◌, ℕ, ◌≤◌, ◌^◌, List, length, Option, Some, None, refl, sym, subst, arith, All, Contains, Vec, slice_get, Global, All-contains}
+use Rattle.witness.specs.{Edge, AreEdgeRows, IsEdgeOf, items_of}
 use Rattle.contractor.proofs.ListLemmas.{none_in, contains_place}
 
 pub edge_rows : (nodes : ℕ) (rows : List (Vec Edge Global)) → length rows ≡ nodes → nodes ≤ 2 ^ 24

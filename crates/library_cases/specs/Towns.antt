@@ -1,12 +1,10 @@
 -- A graph and an automaton that are drawn from a number: each arc runs at the multiples of some period, up to some last time.
-use Rattle.std.proofs.Common.{◌≡◌, ℕ, ◌+◌, ◌*◌, ◌/◌, ◌%◌, ◌^◌, ◌<◌, ◌≤◌, ◌-◌, Bool, true, false, cond, Some, None, nat_lt, ◌==◌, ◌||◌, refl, sym, ◌∙◌, ap, subst, arith}
-use Rattle.std.specs.Prelude.{Option, IfSome}
+use Rattle.std.specs.Prelude.{◌≡◌, ℕ, ◌+◌, ◌*◌, ◌/◌, ◌%◌, ◌^◌, ◌<◌, ◌≤◌, ◌-◌, Bool, true, false, cond, Some, None, nat_lt, ◌==◌, ◌||◌, refl, Option, IfSome}
+use Rattle.std.proofs.Common.{sym, ◌∙◌, ap, subst, arith}
 use Rattle.std.proofs.lemmas.Bool.{ltb-true, lt-ltb}
 use Rattle.std.proofs.lemmas.Nat.{le-div, div-add-mod'}
 use Rattle.std.proofs.Math.Nat.{div-mul-le_self, mul-le-mul_right, mod-lt}
-use Rattle.search_laws.specs.Letters.{IsLetter}
-use Rattle.search_laws.specs.GraphLaws.{GraphMeaning, IsLawfulGraph}
-use Rattle.search_laws.specs.LabelLaws.{LabelsMeaning, IsLawfulLabels}
+use Rattle.search_laws.specs.{IsLetter, GraphMeaning, IsLawfulGraph, LabelsMeaning, IsLawfulLabels}
 
 abbrev pub square : ℕ → ℕ
 square x = x * x

@@ -1,6 +1,6 @@
 //! The graph of a network, and its timetable.
 
-ghost use Rattle.std.specs.Prelude.{◌≡◌, ◌<◌, Some, IfSome, length};
+ghost use Rattle.std.specs.Prelude.{◌≡◌, ◌<◌, Some, IfSome};
 ghost use Rattle.search_laws.specs.GraphLaws.{HasArc};
 ghost use Rattle.plain_graph.specs.PlainArcs.{plain_meaning};
 

@@ -1,13 +1,10 @@
 -- The cell of an arrival is right, and rows one below the other.
-use Rattle.std.proofs.Common.{ℕ, ◌-◌, List, [], ◌∷◌, ◌++◌, append-nil, Option, Some, None, refl, sym, ap}
+use Rattle.plan_base.proofs.Common.{ℕ, ◌-◌, List, [], ◌∷◌, ◌++◌, append-nil, Option, Some, None, refl, sym, ap}
 use Rattle.mode_network.specs.NetworkLists.{NetworkLists}
-use Rattle.journey.specs.Best.{Asked, Asks}
-use Rattle.planning.specs.Arrivals.{IsBestArrival}
+use Rattle.journey.specs.{Asked, Asks}
+use Rattle.planning.specs.{IsBestArrival}
 use Rattle.run_steps.proofs.JoinLemmas.{blocks_join}
-use Rattle.matrix_commands.specs.declared.cell.Cell.{Cell}
-use Rattle.matrix_commands.specs.Cells.{IsCellOf, IsRightCell, cell_text, query_line_of}
-use Rattle.matrix_commands.specs.Rows.{AreRowsOf, IsMatrixRow, row_text}
-use Rattle.matrix_commands.specs.inside.Working.{cell_of_arrival}
+use Rattle.matrix_commands.specs.{Cell, IsCellOf, IsRightCell, cell_text, query_line_of, AreRowsOf, IsMatrixRow, row_text, inside.cell_of_arrival}
 
 pub timed_right : (n : NetworkLists) (line : List ℕ) (asked : Asked) (arrival : Option ℕ) → Asks n line asked → IsBestArrival n asked arrival → IsCellOf n line (cell_of_arrival asked.depart arrival)
 timed_right n line asked (Some arrival) asks (j, best, at) = (asked, j, best, asks, ap (λ x. x - asked.depart) (sym at))

@@ -1,8 +1,7 @@
 -- A run whose files are there and without fault ends with its work done.
 use Rattle.hierarchy_commands.proofs.CompleteLemmas.{named_completes}
-use Rattle.run_steps.proofs.CompleteSteps.{file_completes, network_completes}
-use Rattle.run_steps.proofs.TurnComplete.{answers_completes}
-use Rattle.matrix_commands.specs.Complete.{MatrixCompletes}
+use Rattle.run_steps.proofs.{CompleteSteps.file_completes, CompleteSteps.network_completes, TurnComplete.answers_completes}
+use Rattle.matrix_commands.specs.{MatrixCompletes}
 
 pub matrix_completes : MatrixCompletes
 matrix_completes caps places files region origins destinations date time expr hierarchy =

@@ -1,29 +1,16 @@
 -- The query line of two lines that are one field each asks what each asks at both ends: from the one, to the other.
-use Rattle.std.proofs.Common.{Bor, map, ◌≡◌, ℕ, ◌+◌, ◌<◌, ◌∙◌, get_or, append_assoc, below_more, List, [], ◌∷◌, ◌++◌, length, take, drop, Bool, true, false, cond, not, ◌&&◌, Option, Some, None, Ok, refl, sym, ap, ap₂, subst, arith}
-use Rattle.std.specs.Prelude.{nat_lt, position, option_and_then, option_map}
-use Rattle.std.specs.List.{position_or_len}
+use Rattle.plan_base.proofs.Common.{Bor, map, ◌≡◌, ℕ, ◌+◌, ◌<◌, ◌∙◌, get_or, append_assoc, below_more, List, [], ◌∷◌, ◌++◌, length, take, drop, Bool, true, false, cond, not, ◌&&◌, Option, Some, None, Ok, refl, sym, ap, ap₂, subst, arith, nat_lt, position, option_and_then, option_map, position_or_len, take-append_seam, drop-append-add, get_or-append_seam, ltb-false, nat_tests, get_or_append_left, get_or_default, length-append, length-map}
 use Rattle.std.proofs.Math.ListN.{get_or-map}
-use Rattle.std.proofs.Math.Seq.{take-append_seam, drop-append-add, get_or-append_seam}
-use Rattle.std.proofs.lemmas.Bool.{ltb-false}
-use Rattle.std.proofs.lemmas.Bool.Decides.{nat_tests}
-use Rattle.std.proofs.lemmas.List.{get_or_append_left, get_or_default, length-append, length-map}
 use Rattle.std.proofs.lemmas.List.Folds.{prefix_len-append}
 use Rattle.std.proofs.lemmas.List.Sums.{prefix_len-le-length}
-use Rattle.plain_texts.specs.Lines.{is_space, spaced}
-use Rattle.mode_expression.specs.Form.{form_of}
-use Rattle.mode_expression.specs.Reading.{IsExpression}
-use Rattle.service_days.specs.Dates.{date_at}
-use Rattle.mode_network.specs.declared.endpoints.Endpoint.{Endpoint}
-use Rattle.mode_network.specs.NetworkLists.{NetworkLists}
-use Rattle.journey.specs.declared.query.Query.{Query}
-use Rattle.journey.specs.Shapes.{Shape, at_space, departs_on, endpoint_of, fields_of, is_filled, shape_of, shape_of_fields, time_at}
-use Rattle.journey.specs.Queries.{IsKnown, IsQuery}
-use Rattle.journey.specs.Best.{Asks, asked_by}
-use Rattle.journey.specs.Large.{IsSmall}
+use Rattle.plain_texts.specs.{is_space, spaced}
+use Rattle.mode_expression.specs.{form_of, IsExpression}
+use Rattle.service_days.specs.{date_at}
+use Rattle.mode_network.specs.{Endpoint, NetworkLists.NetworkLists}
+use Rattle.journey.specs.{Query, Shape, at_space, departs_on, endpoint_of, fields_of, is_filled, shape_of, shape_of_fields, time_at, IsKnown, IsQuery, Asks, asked_by, IsSmall}
 use Rattle.journey.proofs.LargeLemmas.{same_size}
-use Rattle.planning.specs.Arrivals.{asked_to}
-use Rattle.matrix_commands.specs.Cells.{query_line_of}
-use Rattle.matrix_commands.specs.inside.Working.{IsEndQuery, IsField}
+use Rattle.planning.specs.{asked_to}
+use Rattle.matrix_commands.specs.{query_line_of, inside.IsEndQuery, inside.IsField}
 
 -- ---- the fields of the query line
 

@@ -1,15 +1,9 @@
 -- What a cell of a table says of an origin and a destination: what `answer` would say of their query line, as one value.
 use Rattle.std.specs.Prelude.{◌≡◌, ℕ, ◌-◌, List, [], ◌∷◌, codes, decimal, Option}
-use Rattle.plain_texts.specs.Lines.{spaced}
-use Rattle.mode_network.specs.NetworkLists.{NetworkLists}
-use Rattle.mode_network.specs.Journeys.{Route}
-use Rattle.journey.specs.declared.fault.QueryFault.TheVariants.{TooLarge}
-use Rattle.journey.specs.Queries.{IsRefused}
-use Rattle.journey.specs.Best.{Asked, Asks, IsBest, HasNone}
-use Rattle.journey.specs.Texts.{refusal_text}
-use Rattle.journey.specs.Large.{IsUnder}
-use Rattle.matrix_commands.specs.declared.cell.Cell.{Cell}
-use Rattle.matrix_commands.specs.declared.cell.Cell.TheVariants.{Takes, Without, Refused}
+use Rattle.plain_texts.specs.{spaced}
+use Rattle.mode_network.specs.{NetworkLists.NetworkLists, Route}
+use Rattle.journey.specs.{TooLarge, IsRefused, Asked, Asks, IsBest, HasNone, refusal_text, IsUnder}
+pub use Rattle.matrix_commands.specs.{declared.cell.Cell.Cell, declared.cell.Cell.TheVariants.Takes, declared.cell.Cell.TheVariants.Without, declared.cell.Cell.TheVariants.Refused}
 
 -- the query line of an origin and a destination: its fields, joined by one space each
 abbrev pub query_line_of : (date time expr from to : List ℕ) → List ℕ

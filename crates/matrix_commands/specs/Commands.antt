@@ -1,13 +1,9 @@
 -- What the command says of a run by its outcome.
 use Rattle.std.specs.Prelude.{ℕ, List, Option}
-use Rattle.plan_base.specs.declared.limits.Caps.{Caps}
+use Rattle.plan_base.specs.{Caps}
 use Rattle.mode_network.specs.NetworkLists.{NetworkLists}
-use Rattle.hierarchy_commands.specs.Commands.{OnHierarchyIfNamed}
-use Rattle.run_steps.specs.declared.outcome.FileRole.TheVariants.{Origins, Destinations}
-use Rattle.run_steps.specs.InTurn.{AnswersFile}
-use Rattle.run_steps.specs.QueryLines.{query_lines}
-use Rattle.run_steps.specs.Regions.{OnRegion}
-use Rattle.run_steps.specs.Sayings.{Saying, OnFile}
+use Rattle.hierarchy_commands.specs.{OnHierarchyIfNamed}
+use Rattle.run_steps.specs.{declared.outcome.FileRole.TheVariants.Origins, declared.outcome.FileRole.TheVariants.Destinations, AnswersFile, query_lines, OnRegion, Saying, OnFile}
 use Rattle.matrix_commands.specs.Rows.{AreRowsOf}
 
 -- the destinations file is read whole, and the rows of each line of the origins file, one for each line of destinations, are written as it is read

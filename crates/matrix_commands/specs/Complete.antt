@@ -1,9 +1,9 @@
 -- What can be done: the files that the command names are there and without fault.
 use Rattle.std.specs.Prelude.{ℕ, List, Option}
-use Rattle.plan_base.specs.declared.limits.Caps.{Caps}
-use Rattle.hierarchy_commands.specs.Complete.{IsSoundIfNamed}
+use Rattle.plan_base.specs.{Caps}
+use Rattle.hierarchy_commands.specs.{IsSoundIfNamed}
 use Rattle.run_steps.specs.declared.outcome.FileRole.TheVariants as role
-use Rattle.run_steps.specs.Complete.{Files, AreLinesHeld, IsHeld, IsRegionHeld, Completes}
+use Rattle.run_steps.specs.{Files, AreLinesHeld, IsHeld, IsRegionHeld, Completes}
 use Rattle.matrix_commands.specs.Commands.{SaysMatrix}
 
 abbrev pub CanMatrix : Caps → Files → (region origins destinations : List ℕ) → Option (List ℕ) → Type 0

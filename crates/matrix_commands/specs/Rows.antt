@@ -1,8 +1,8 @@
 -- The rows of a table of times: one for each origin and each destination.
 use Rattle.std.specs.Prelude.{◌≡◌, ℕ, List, ◌∷◌, ◌++◌, Option}
-use Rattle.plain_texts.specs.Lines.{with_feed}
+use Rattle.plain_texts.specs.{with_feed}
 use Rattle.mode_network.specs.NetworkLists.{NetworkLists}
-use Rattle.run_steps.specs.Blocks.{AreBlocks}
+use Rattle.run_steps.specs.{AreBlocks}
 use Rattle.matrix_commands.specs.Cells.{query_line_of, IsCell}
 
 -- the two lines as they stand and a value, with a tabulator between each two

@@ -1,6 +1,6 @@
 //! What is asked of each origin and each destination, and their query lines.
 
-ghost use Rattle.std.specs.Prelude.{◌≡◌, ◌∷◌, ◌++◌, ◌==◌, ◌↔◌, [], IfOk, IfSome, IsTrue, OnOk, map, position};
+ghost use Rattle.std.specs.Prelude.{◌≡◌, ◌∷◌, ◌++◌, ◌==◌, ◌↔◌, IfOk, IsTrue, OnOk, map, position};
 ghost use Rattle.matrix_commands.specs.Cells.{query_line_of};
 ghost use Rattle.matrix_commands.specs.inside.Working.{AreEndQueries, IsEndIfAny, IsField};
 

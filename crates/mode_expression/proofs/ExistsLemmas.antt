@@ -1,11 +1,6 @@
 -- Each text gives an expression or a fault.
-use Rattle.std.proofs.Common.{◌≡◌, ℕ, zero, suc, ◌+◌, ◌^◌, ◌<◌, ◌≤◌, ◌==◌, ◌⊎◌, List, length, take, min, count_by, slice_get, Bool, true, false, nat_lt, nat_le, Option, Some, None, Result, Ok, Err, refl, sym, ap, ◌∙◌, subst, inl, inr, arith}
-use Rattle.std.proofs.lemmas.Bool.Decides.{nat_tests}
-use Rattle.std.proofs.lemmas.Option.{slice_get_past}
-use Rattle.mode_expression.specs.declared.fault.ExprFault.{ExprFault}
-use Rattle.mode_expression.specs.declared.fault.ExprFault.TheVariants.{TooLong, TooDeep, Syntax, TooLarge}
-use Rattle.mode_expression.specs.Form.{Form, places}
-use Rattle.mode_expression.specs.Reading.{Spells, IsTooDeepAt, IsShallow, IsReadAs, reading_of, IsParse, OutcomeExists}
+use Rattle.plan_base.proofs.Common.{◌≡◌, ℕ, zero, suc, ◌+◌, ◌^◌, ◌<◌, ◌≤◌, ◌==◌, ◌⊎◌, List, length, take, min, count_by, slice_get, Bool, true, false, nat_lt, nat_le, Option, Some, None, Result, Ok, Err, refl, sym, ap, ◌∙◌, subst, inl, inr, arith, nat_tests, slice_get_past}
+use Rattle.mode_expression.specs.{ExprFault, TooLong, TooDeep, Syntax, TooLarge, places, Spells, IsTooDeepAt, IsShallow, IsReadAs, reading_of, IsParse, OutcomeExists, Form.Form}
 use Rattle.mode_expression.proofs.ReadingLemmas.{reading_is_right}
 
 module _ (text : List ℕ) where

@@ -1,13 +1,7 @@
 -- The form of an expression in memory, by its parts.
-use Rattle.std.proofs.Common.{◌≡◌, ◌≢◌, List, [], ◌∷◌, ◌++◌, length, map, reverse, Vec, Global, refl, sym, ap, ◌∙◌, append_assoc, append-nil}
-use Rattle.std.proofs.lemmas.List.{length-map, map-append, reverse-append, reverse-reverse}
-use Rattle.std.proofs.lemmas.Grind.{reverse_onto}
+use Rattle.plan_base.proofs.Common.{◌≡◌, ◌≢◌, List, [], ◌∷◌, ◌++◌, length, map, reverse, Vec, refl, sym, ap, ◌∙◌, append_assoc, append-nil, length-map, map-append, reverse-append, reverse-reverse, reverse_onto, Global}
 use mathlib.Core.Former.{Count}
-use Rattle.mode_expression.specs.declared.expr.Expr.{Expr, Seq, Seq', Alt, Alt', Row_of-Expr, end_of-Expr, more_of-Expr, items-the_row-Expr, items_hidden-the_row-Expr-0}
-use Rattle.mode_expression.specs.Form.{Form, form_of, form_in_turn, form_of_one, in_turn, one_of, both, either}
-use Rattle.mode_expression.specs.Grammar.{sequence, alternative}
-use Rattle.mode_expression.specs.inside.Machine.{Frame, in_order_onto, with_choice, group_of}
-use Rattle.mode_expression.specs.inside.Views.{latest}
+use Rattle.mode_expression.specs.{Expr, Seq', Alt', Row_of-Expr, end_of-Expr, more_of-Expr, form_of, form_in_turn, form_of_one, in_turn, one_of, both, either, sequence, alternative, declared.expr.Expr.Seq, declared.expr.Expr.Alt, declared.expr.Expr.items-the_row-Expr, declared.expr.Expr.items_hidden-the_row-Expr-0, Form.Form, inside.Frame, inside.in_order_onto, inside.with_choice, inside.group_of, inside.latest}
 
 abbrev row_of : Expr → (n : Count) × Row_of-Expr n
 row_of (Seq' _ row) = (_, row)

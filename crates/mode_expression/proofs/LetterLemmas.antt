@@ -1,14 +1,8 @@
 -- Letters by number and by name.
-use Rattle.std.proofs.Common.{◌≡◌, ℕ, zero, suc, ◌<◌, true, false, nat_lt, List, [], Some, None, get_or, slice_get, refl, sym, ap, lit≤, arith}
-use Rattle.std.proofs.lemmas.List.Sums.{position_or_len_is}
-use Rattle.std.proofs.lemmas.Option.{get_or_from_slice_get}
-use Rattle.std.proofs.lemmas.Bool.Decides.{nat_tests}
-use Rattle.std.specs.Str.{bytes_eq}
-use Rattle.search_laws.specs.Letters.{IsLetter, letter_count}
-use Rattle.mode_expression.specs.declared.letter.Letter.{Letter}
-use Rattle.mode_expression.specs.declared.letter.Letter.TheVariants.{Foot, Bike, Car, Tram, Metro, Rail, Bus, Ferry, Cable, Lift, Funicular, Trolley, Monorail, Other}
-use Rattle.plan_base.specs.LetterNames.{letter_names}
-use Rattle.mode_expression.specs.Letters.{letter_named, number_of, letter_numbered}
+use Rattle.plan_base.proofs.Common.{◌≡◌, ℕ, zero, suc, ◌<◌, true, false, nat_lt, List, [], Some, None, get_or, slice_get, refl, sym, ap, lit≤, arith, position_or_len_is, get_or_from_slice_get, nat_tests, bytes_eq}
+use Rattle.search_laws.specs.{IsLetter, letter_count}
+use Rattle.mode_expression.specs.{Letter, Foot, Bike, Car, Tram, Metro, Rail, Bus, Ferry, Cable, Lift, Funicular, Trolley, Monorail, Other, letter_named, number_of, letter_numbered}
+use Rattle.plan_base.specs.{letter_names}
 
 -- the letter that has a number has that number
 pub number_of_numbered : (n : ℕ) (letter : Letter) → letter_numbered n ≡ Some letter → number_of letter ≡ n

@@ -1,13 +1,6 @@
 -- The readings that accept a list of tokens are those of its derivation trees.
-use Rattle.std.proofs.Common.{◌≡◌, ℕ, ◌≤◌, Bool, true, false, ◌&&◌, nat_le, List, [], ◌∷◌, ◌++◌, Option, Some, None, option_and_then, refl, sym, ap, ◌∙◌, subst, append_assoc, append-nil, inl, inr, ◌⊎◌, if◌then◌else◌, arith}
-use Rattle.std.proofs.lemmas.Bool.Decides.{nat_tests}
-use Rattle.mode_expression.specs.declared.token.Token.{Token}
-use Rattle.mode_expression.specs.declared.token.Token.TheVariants.{Name, Number, Bar, Star, Plus, Question, OpenBrace, CloseBrace, Comma, Open, Close}
-use Rattle.mode_expression.specs.declared.place.Place.{Place}
-use Rattle.mode_expression.specs.declared.place.Place.TheVariants.{NeedsAtom, AfterAtom, AfterItem, Least, AfterLeast, Most, AfterMost}
-use Rattle.mode_expression.specs.Form.{Form, letters}
-use Rattle.mode_expression.specs.Grammar.{Suffix, star, plus, question, exactly, between, Choice, only, or, Row, last, next, Item, plain, counted, Atom, name, group, suffix_tokens, choice_tokens, row_tokens, item_tokens, atom_tokens, sequence, alternative, counted_form, choice_forms, row_forms, item_form, atom_form, IsSentence}
-use Rattle.mode_expression.specs.inside.Machine.{Frame, Reading, in_order_onto, step, step_atom, step_item, step_suffix, step_least, step_after_least, step_most, step_after_most, repeat_last, finish, empty_reading}
+use Rattle.plan_base.proofs.Common.{◌≡◌, ℕ, ◌≤◌, Bool, true, false, ◌&&◌, nat_le, List, [], ◌∷◌, ◌++◌, Option, Some, None, option_and_then, refl, sym, ap, ◌∙◌, subst, append_assoc, append-nil, inl, inr, ◌⊎◌, if◌then◌else◌, arith, nat_tests}
+use Rattle.mode_expression.specs.{Token, Name, Number, Bar, Star, Plus, Question, OpenBrace, CloseBrace, Comma, Open, Close, letters, Suffix, star, plus, question, exactly, between, Choice, only, or, Row, last, next, Item, plain, counted, Atom, name, group, suffix_tokens, choice_tokens, row_tokens, item_tokens, atom_tokens, sequence, alternative, counted_form, choice_forms, row_forms, item_form, atom_form, IsSentence, declared.place.Place.Place, declared.place.Place.TheVariants.NeedsAtom, declared.place.Place.TheVariants.AfterAtom, declared.place.Place.TheVariants.AfterItem, declared.place.Place.TheVariants.Least, declared.place.Place.TheVariants.AfterLeast, declared.place.Place.TheVariants.Most, declared.place.Place.TheVariants.AfterMost, Form.Form, inside.Frame, inside.Reading, inside.in_order_onto, inside.step, inside.step_atom, inside.step_item, inside.step_suffix, inside.step_least, inside.step_after_least, inside.step_most, inside.step_after_most, inside.repeat_last, inside.finish, inside.empty_reading}
 
 abbrev pub reading : List Frame → List Form → List Form → Place → Reading
 reading outer choices parts place = record { outer = outer; frame = record { choices = choices; parts = parts }; place = place }

@@ -1,9 +1,6 @@
 -- Counting the parentheses of a text.
-use Rattle.std.proofs.Common.{◌≡◌, ◌≢◌, ℕ, ◌+◌, ◌<◌, ◌≤◌, ◌==◌, Bool, true, false, nat_le, List, length, get_or, take, count_by, slice_get, Some, refl, sym, ap, ◌∙◌, below_more, arith}
-use Rattle.std.proofs.lemmas.Bool.Decides.{nat_tests}
-use Rattle.std.proofs.lemmas.List.Sums.{count_by_more_yes, count_by_more_no}
-use Rattle.std.proofs.lemmas.Option.{get_or_from_slice_get, slice_get_past}
-use Rattle.mode_expression.specs.Reading.{IsTooDeepAt}
+use Rattle.plan_base.proofs.Common.{◌≡◌, ◌≢◌, ℕ, ◌+◌, ◌<◌, ◌≤◌, ◌==◌, Bool, true, false, nat_le, List, length, get_or, take, count_by, slice_get, Some, refl, sym, ap, ◌∙◌, below_more, arith, nat_tests, count_by_more_yes, count_by_more_no, get_or_from_slice_get, slice_get_past}
+use Rattle.mode_expression.specs.{IsTooDeepAt}
 
 -- the parentheses before i, of which none is too deep
 pub record IsCounted (text : List ℕ) (i opened closed : ℕ) : Type 0 where

@@ -1,19 +1,8 @@
 -- What the expression of a text is known to be.
-use Rattle.std.proofs.Common.{◌≡◌, ℕ, ◌^◌, ◌<◌, ◌≤◌, Bool, true, false, List, [], ◌∷◌, ◌++◌, length, map, Option, Some, None, IfSome, Ok, Err, codes, option_map, refl, sym, subst, inl, inr, ◌⊎◌, if◌then◌else◌, ◌==◌, arith, lit<, nat_le}
-use Rattle.std.proofs.lemmas.List.Quantifiers.{position-Some}
-use Rattle.std.proofs.lemmas.Nat.{pow_below}
-use Rattle.std.specs.Str.{bytes_eq}
-use Rattle.search_laws.specs.Letters.{IsLetter, IsLetterSet, every_letter, letter_count, transit_letters}
-use Rattle.mode_expression.specs.declared.token.Token.{Token}
-use Rattle.mode_expression.specs.declared.token.Token.TheVariants.{Name, Number, Bar, Star, Plus, Question, OpenBrace, CloseBrace, Comma, Open, Close, Unknown}
-use Rattle.mode_expression.specs.declared.fault.ExprFault.{ExprFault}
-use Rattle.mode_expression.specs.declared.fault.ExprFault.TheVariants.{TooLong, TooDeep, Syntax, TooLarge, OutOfMemory}
-use Rattle.mode_expression.specs.Form.{Form, in_turn, one_of, IsWellFormed}
-use Rattle.mode_expression.specs.Grammar.{Suffix, star, plus, question, exactly, between, Choice, only, or, Row, last, next, Item, plain, counted, Atom, name, group, suffix_tokens, choice_tokens, row_tokens, item_tokens, atom_tokens, sequence, alternative, counted_form, choice_forms, row_forms, item_form, atom_form}
-use Rattle.plan_base.specs.LetterNames.{letter_names}
-use Rattle.mode_expression.specs.Letters.{letter_named, letters_named}
-use Rattle.mode_expression.specs.Tokens.{Lexeme, is_lower, is_digit, placed_token, lexemes, token_of, name_token, symbol_token, decimal}
-use Rattle.mode_expression.specs.Reading.{token, Spells, IsReadAs, reading_of, IsFault, IsShallow, ReadsAs, ExpressionsAreUsable}
+use Rattle.plan_base.proofs.Common.{◌≡◌, ℕ, ◌^◌, ◌<◌, ◌≤◌, Bool, true, false, List, [], ◌∷◌, ◌++◌, length, map, Option, Some, None, IfSome, Ok, Err, codes, option_map, refl, sym, subst, inl, inr, ◌⊎◌, if◌then◌else◌, ◌==◌, arith, lit<, nat_le, position-Some, pow_below, bytes_eq}
+use Rattle.search_laws.specs.{IsLetter, IsLetterSet, every_letter, letter_count, transit_letters}
+use Rattle.mode_expression.specs.{Token, Name, Number, Bar, Star, Plus, Question, OpenBrace, CloseBrace, Comma, Open, Close, Unknown, ExprFault, TooLong, TooDeep, Syntax, TooLarge, OutOfMemory, in_turn, one_of, IsWellFormed, Suffix, star, plus, question, exactly, between, Choice, only, or, Row, last, next, Item, plain, counted, Atom, name, group, suffix_tokens, choice_tokens, row_tokens, item_tokens, atom_tokens, sequence, alternative, counted_form, choice_forms, row_forms, item_form, atom_form, letter_named, letters_named, Lexeme, is_lower, is_digit, placed_token, lexemes, token_of, name_token, symbol_token, decimal, token, Spells, IsReadAs, reading_of, IsFault, IsShallow, ReadsAs, ExpressionsAreUsable, Form.Form}
+use Rattle.plan_base.specs.{letter_names}
 use Rattle.mode_expression.proofs.ReadingLemmas.{reading_is_right}
 
 pub spells_of_reading : (text : List ℕ) (form : Form) → reading_of text ≡ Ok form → Spells text form

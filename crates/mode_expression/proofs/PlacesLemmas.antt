@@ -1,9 +1,6 @@
 -- The places of letters in a sequence or an alternative.
-use Rattle.std.proofs.Common.{◌≡◌, ℕ, ◌+◌, ◌^◌, ◌≤◌, List, [], ◌∷◌, length, map, take, min, sum_by, Vec, Global, refl, sym, ap, ◌∙◌, inl, inr, ◌⊎◌}
-use Rattle.std.proofs.lemmas.List.{take_all}
-use Rattle.std.proofs.lemmas.List.Sums.{sum_by-cons}
-use Rattle.mode_expression.specs.declared.expr.Expr.{Expr, Seq, Alt}
-use Rattle.mode_expression.specs.Form.{form_of, in_turn, one_of, places}
+use Rattle.plan_base.proofs.Common.{◌≡◌, ℕ, ◌+◌, ◌^◌, ◌≤◌, List, [], ◌∷◌, length, map, take, min, sum_by, Vec, refl, sym, ap, ◌∙◌, inl, inr, ◌⊎◌, take_all, sum_by-cons, Global}
+use Rattle.mode_expression.specs.{Expr, form_of, in_turn, one_of, places, declared.expr.Expr.Seq, declared.expr.Expr.Alt}
 use Rattle.mode_expression.proofs.FormLemmas.{form_seq, form_alt}
 
 abbrev pub places_of : Expr → ℕ

@@ -1,16 +1,6 @@
 -- Reading a text gives its expression, or the first token that no sentence can go on with.
-use Rattle.std.proofs.Common.{◌≡◌, ℕ, suc, Bool, true, false, ◌&&◌, nat_le, List, [], ◌∷◌, ◌++◌, length, map, Option, Some, None, IfSome, Result, Ok, Err, option_and_then, refl, sym, ap, ◌∙◌, subst, append_assoc, append-nil, inl, inr, if◌then◌else◌, arith}
-use Rattle.std.proofs.lemmas.Bool.Decides.{nat_tests}
-use Rattle.std.proofs.lemmas.List.{map-append}
-use Rattle.mode_expression.specs.declared.token.Token.{Token}
-use Rattle.mode_expression.specs.declared.token.Token.TheVariants.{Name, Number, Bar, Star, Plus, Question, OpenBrace, CloseBrace, Comma, Open, Close}
-use Rattle.mode_expression.specs.declared.place.Place.{Place}
-use Rattle.mode_expression.specs.declared.place.Place.TheVariants.{NeedsAtom, AfterAtom, AfterItem, Least, AfterLeast, Most, AfterMost}
-use Rattle.mode_expression.specs.Form.{Form, letters, repeated}
-use Rattle.mode_expression.specs.Grammar.{sequence, alternative, IsSentence, BeginsSentence}
-use Rattle.mode_expression.specs.Tokens.{Placed, tokens_of}
-use Rattle.mode_expression.specs.inside.Machine.{Frame, Reading, in_order_onto, step, step_atom, step_item, step_suffix, step_least, step_after_least, step_most, step_after_most, repeat_last, finish, empty_reading, read_from, read_on, ok_or_at}
-use Rattle.mode_expression.specs.Reading.{token, Spells, IsMisplaced, IsUnfinished, IsReadAs, reading_of}
+use Rattle.plan_base.proofs.Common.{◌≡◌, ℕ, suc, Bool, true, false, ◌&&◌, nat_le, List, [], ◌∷◌, ◌++◌, length, map, Option, Some, None, IfSome, Result, Ok, Err, option_and_then, refl, sym, ap, ◌∙◌, subst, append_assoc, append-nil, inl, inr, if◌then◌else◌, arith, nat_tests, map-append}
+use Rattle.mode_expression.specs.{Token, Name, Number, Bar, Star, Plus, Question, OpenBrace, CloseBrace, Comma, Open, Close, letters, repeated, sequence, alternative, IsSentence, BeginsSentence, Placed, tokens_of, token, Spells, IsMisplaced, IsUnfinished, IsReadAs, reading_of, declared.place.Place.Place, declared.place.Place.TheVariants.NeedsAtom, declared.place.Place.TheVariants.AfterAtom, declared.place.Place.TheVariants.AfterItem, declared.place.Place.TheVariants.Least, declared.place.Place.TheVariants.AfterLeast, declared.place.Place.TheVariants.Most, declared.place.Place.TheVariants.AfterMost, Form.Form, inside.Frame, inside.Reading, inside.in_order_onto, inside.step, inside.step_atom, inside.step_item, inside.step_suffix, inside.step_least, inside.step_after_least, inside.step_most, inside.step_after_most, inside.repeat_last, inside.finish, inside.empty_reading, inside.read_from, inside.read_on, inside.ok_or_at}
 use Rattle.mode_expression.proofs.MachineLemmas.{reading, accept, EndsItem, accept_close, finish_ends, accept_sentence, sentence_of_accepted}
 
 -- the reading after these tokens, if each may stand there

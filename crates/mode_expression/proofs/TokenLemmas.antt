@@ -1,14 +1,9 @@
 -- How the tokens of a text follow from its bytes.
-use Rattle.std.proofs.Common.{◌≡◌, ◌≢◌, ℕ, ◌+◌, ◌<◌, Bool, true, false, ◌&&◌, ◌||◌, ◌==◌, List, [], ◌∷◌, ◌++◌, length, get_or, take, drop, refl, sym, ap, ◌∙◌, append_assoc, arith, drop-cons, add-one, add-zero, length-drop}
-use Rattle.std.proofs.lemmas.Bool.Decides.{nat_tests}
-use Rattle.std.proofs.lemmas.List.{take_more}
-use Rattle.mode_expression.specs.Tokens.{is_lower, is_digit, joins, lexemes, widened, Lexeme}
+use Rattle.plan_base.proofs.Common.{◌≡◌, ◌≢◌, ℕ, ◌+◌, ◌<◌, Bool, true, false, ◌&&◌, ◌||◌, ◌==◌, List, [], ◌∷◌, ◌++◌, length, get_or, take, drop, refl, sym, ap, ◌∙◌, append_assoc, arith, drop-cons, add-one, add-zero, length-drop, nat_tests, take_more}
+use Rattle.mode_expression.specs.{is_lower, is_digit, joins, lexemes, widened, Lexeme}
 
 is_32 : (c : ℕ) → c ≢ 32 → (c == 32) ≡ false
 is_32 c other = grind (arith, nat_tests)
-
-lexemes_space : (at c : ℕ) (text : List ℕ) → c ≡ 32 → lexemes at (c ∷ text) ≡ lexemes (at + 1) text
-lexemes_space at c text is = let e : (c == 32) ≡ true = grind (arith, nat_tests) in rw e
 
 lexemes_joined : (at c : ℕ) (text : List ℕ) → c ≢ 32 → joins c text ≡ true → lexemes at (c ∷ text) ≡ widened at c (lexemes (at + 1) text)
 lexemes_joined at c text other join = let e = is_32 c other in rw (e, join)

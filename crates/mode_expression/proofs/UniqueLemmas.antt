@@ -1,10 +1,6 @@
 -- A text gives one expression or one first fault.
-use Rattle.std.proofs.Common.{◌≡◌, ℕ, ◌^◌, ◌<◌, ◌≤◌, List, min, Bool, true, false, nat_lt, Ok, Err, refl, sym, ap, ◌∙◌, arith}
-use Rattle.std.proofs.lemmas.Bool.Decides.{nat_tests}
-use Rattle.mode_expression.specs.declared.fault.ExprFault.{ExprFault}
-use Rattle.mode_expression.specs.declared.fault.ExprFault.TheVariants.{TooLong, TooDeep, Syntax, TooLarge, OutOfMemory}
-use Rattle.mode_expression.specs.Form.{Form, places}
-use Rattle.mode_expression.specs.Reading.{Spells, IsTooDeepAt, IsReadAs, IsExpression, IsFault, OutcomeIsUnique}
+use Rattle.plan_base.proofs.Common.{◌≡◌, ℕ, ◌^◌, ◌<◌, ◌≤◌, List, min, Bool, true, false, nat_lt, Ok, Err, refl, sym, ap, ◌∙◌, arith, nat_tests}
+use Rattle.mode_expression.specs.{ExprFault, TooLong, TooDeep, Syntax, TooLarge, OutOfMemory, places, Spells, IsTooDeepAt, IsReadAs, IsExpression, IsFault, OutcomeIsUnique, Form.Form}
 use Rattle.mode_expression.proofs.ReadingLemmas.{reading_is_unique}
 
 same_form : (text : List ℕ) (a b : Form) → Spells text a → Spells text b → a ≡ b

@@ -1,7 +1,7 @@
 -- What an expression is, and the words that it denotes.
 use Rattle.std.specs.Prelude.{◌≡◌, ℕ, ◌+◌, ◌*◌, ◌≤◌, ◌⊎◌, ◌++◌, List, [], ◌∷◌, Option, Some, None, IfSome, IsBitSet, suc, zero}
-use Rattle.search_laws.specs.Letters.{IsLetterSet}
-use Rattle.mode_expression.specs.declared.expr.Expr.{Expr, Letters, Seq', Alt', Repeat', Row_of-Expr, end_of-Expr, more_of-Expr}
+use Rattle.search_laws.specs.{IsLetterSet}
+pub use Rattle.mode_expression.specs.declared.expr.Expr.{Expr, Letters, Seq', Alt', Repeat', Row_of-Expr, end_of-Expr, more_of-Expr}
 
 -- An expression as contracts see it. A sequence is `both` of its first part and the rest, up to `empty`,
 -- and an alternative is `either` of its first part and the rest, up to `never`.

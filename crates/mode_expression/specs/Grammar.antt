@@ -1,8 +1,6 @@
 -- The grammar of expressions, by its derivation trees.
 use Rattle.std.specs.Prelude.{◌≡◌, ℕ, ◌≤◌, ◌++◌, List, [], ◌∷◌, Some, None}
-use Rattle.mode_expression.specs.declared.token.Token.{Token}
-use Rattle.mode_expression.specs.declared.token.Token.TheVariants.{Name, Number, Bar, Star, Plus, Question, OpenBrace, CloseBrace, Comma, Open, Close}
-use Rattle.mode_expression.specs.Form.{Form, letters, in_turn, one_of, repeated}
+use Rattle.mode_expression.specs.{declared.token.Token.Token, declared.token.Token.TheVariants.Name, declared.token.Token.TheVariants.Number, declared.token.Token.TheVariants.Bar, declared.token.Token.TheVariants.Star, declared.token.Token.TheVariants.Plus, declared.token.Token.TheVariants.Question, declared.token.Token.TheVariants.OpenBrace, declared.token.Token.TheVariants.CloseBrace, declared.token.Token.TheVariants.Comma, declared.token.Token.TheVariants.Open, declared.token.Token.TheVariants.Close, Form.Form, Form.letters, Form.in_turn, Form.one_of, Form.repeated}
 
 -- suffix = "*" | "+" | "?" | "{" number "}" | "{" number "," number "}"
 pub data Suffix : Type 0 where

@@ -1,10 +1,8 @@
 -- The letters of words: fourteen means of transport, by number.
-use Rattle.std.specs.Prelude.{ℕ, List, [], ◌∷◌, Option, Some, ◌^◌, codes, position, option_map, slice_get, if◌then◌else◌}
-use Rattle.std.specs.Str.{bytes_eq}
-use Rattle.plan_base.specs.LetterNames.{letter_names}
-use Rattle.search_laws.specs.Letters.{every_letter, transit_letters}
-use Rattle.mode_expression.specs.declared.letter.Letter.{Letter}
-use Rattle.mode_expression.specs.declared.letter.Letter.TheVariants.{Foot, Bike, Car, Tram, Metro, Rail, Bus, Ferry, Cable, Lift, Funicular, Trolley, Monorail, Other}
+use Rattle.std.specs.Prelude.{ℕ, List, [], ◌∷◌, Option, Some, ◌^◌, codes, position, option_map, slice_get, if◌then◌else◌, bytes_eq}
+use Rattle.plan_base.specs.{letter_names}
+use Rattle.search_laws.specs.{every_letter, transit_letters}
+pub use Rattle.mode_expression.specs.{declared.letter.Letter.Letter, declared.letter.Letter.TheVariants.Foot, declared.letter.Letter.TheVariants.Bike, declared.letter.Letter.TheVariants.Car, declared.letter.Letter.TheVariants.Tram, declared.letter.Letter.TheVariants.Metro, declared.letter.Letter.TheVariants.Rail, declared.letter.Letter.TheVariants.Bus, declared.letter.Letter.TheVariants.Ferry, declared.letter.Letter.TheVariants.Cable, declared.letter.Letter.TheVariants.Lift, declared.letter.Letter.TheVariants.Funicular, declared.letter.Letter.TheVariants.Trolley, declared.letter.Letter.TheVariants.Monorail, declared.letter.Letter.TheVariants.Other}
 
 abbrev pub number_of : Letter → ℕ
 number_of Foot = 0

@@ -1,12 +1,7 @@
 -- Which expression a text spells, or why it spells none.
 use Rattle.std.specs.Prelude.{◌≡◌, ℕ, ◌+◌, ◌≤◌, ◌<◌, ◌^◌, ◌⊎◌, ◌++◌, ◌==◌, List, [], ◌∷◌, Some, length, map, take, count_by, slice_get, min, Result, Ok, Err}
-use Rattle.mode_expression.specs.declared.fault.ExprFault.{ExprFault}
-use Rattle.mode_expression.specs.declared.fault.ExprFault.TheVariants.{TooLong, TooDeep, Syntax, TooLarge, OutOfMemory}
-use Rattle.mode_expression.specs.declared.token.Token.{Token}
-use Rattle.mode_expression.specs.Form.{Form, IsUsable, places}
-use Rattle.mode_expression.specs.Grammar.{IsSentence, BeginsSentence}
-use Rattle.mode_expression.specs.Tokens.{Placed, tokens_of}
-use Rattle.mode_expression.specs.inside.Machine.{empty_reading, read_from}
+pub use Rattle.mode_expression.specs.{declared.fault.ExprFault.ExprFault, declared.fault.ExprFault.TheVariants.TooLong, declared.fault.ExprFault.TheVariants.TooDeep, declared.fault.ExprFault.TheVariants.Syntax, declared.fault.ExprFault.TheVariants.TooLarge, declared.fault.ExprFault.TheVariants.OutOfMemory}
+use Rattle.mode_expression.specs.{declared.token.Token.Token, Form.Form, Form.IsUsable, Form.places, Grammar.IsSentence, Grammar.BeginsSentence, Tokens.Placed, Tokens.tokens_of, inside.Machine.empty_reading, inside.Machine.read_from}
 
 abbrev pub token : Placed → Token
 token t = t.token

@@ -1,7 +1,6 @@
 -- The tokens of an expression's text.
 use Rattle.std.specs.Prelude.{ℕ, ◌+◌, ◌*◌, ◌-◌, Bool, false, ◌&&◌, ◌||◌, ◌==◌, nat_le, List, [], ◌∷◌, Option, Some, None, length, fold, map, if◌then◌else◌}
-use Rattle.mode_expression.specs.declared.token.Token.{Token}
-use Rattle.mode_expression.specs.declared.token.Token.TheVariants.{Name, Number, Bar, Star, Plus, Question, OpenBrace, CloseBrace, Comma, Open, Close, Unknown}
+pub use Rattle.mode_expression.specs.{declared.token.Token.Token, declared.token.Token.TheVariants.Name, declared.token.Token.TheVariants.Number, declared.token.Token.TheVariants.Bar, declared.token.Token.TheVariants.Star, declared.token.Token.TheVariants.Plus, declared.token.Token.TheVariants.Question, declared.token.Token.TheVariants.OpenBrace, declared.token.Token.TheVariants.CloseBrace, declared.token.Token.TheVariants.Comma, declared.token.Token.TheVariants.Open, declared.token.Token.TheVariants.Close, declared.token.Token.TheVariants.Unknown}
 use Rattle.mode_expression.specs.Letters.{letters_named}
 
 abbrev pub is_lower : ℕ → Bool

@@ -1,22 +1,9 @@
 -- The road nodes of one id stand in a row.
-use Rattle.std.proofs.Common.{◌≡◌, ℕ, ℤ, ◌<◌, ◌≤◌, ◌<ℤ◌, ◌≤ℤ◌, int_lt, int_le, ◌∙◌, ◌⊎◌, inl, inr, List, length, Option, Some, None, refl, ap, sym, subst, arith, nat_lt, not, true, false, Bool, T}
-use Rattle.std.specs.Prelude.{slice_index_or, slice_get, option_map, All}
-use Rattle.std.specs.List.Sorted.{IsPartitionedBy, IsPartitionPoint}
-use Rattle.std.specs.Ordering.{ordering_then, int_cmp, MatchOrdering}
-use Rattle.std.specs.declared.cmp.Ordering.{Ordering}
-use Rattle.std.specs.declared.cmp.Ordering.TheVariants.{Less, Equal, Greater}
-use Rattle.std.specs.Cmp.{int_ranks}
+use Rattle.plan_base.proofs.Common.{◌≡◌, ℕ, ℤ, ◌<◌, ◌≤◌, ◌<ℤ◌, ◌≤ℤ◌, int_lt, int_le, ◌∙◌, ◌⊎◌, inl, inr, List, length, Option, Some, None, refl, ap, sym, subst, arith, nat_lt, not, true, false, Bool, T, slice_index_or, slice_get, option_map, All, IsPartitionedBy, IsPartitionPoint, ordering_then, int_cmp, MatchOrdering, Ordering, Less, Equal, Greater, int_ranks, ints, T_from_true, ltb-true, ltb-false, slice_get_cases, slice_get_within, get_or_from_slice_get}
 use Rattle.std.specs.Int.Signed.{lt_z_yes, lt_z_no, le_z_yes}
-use Rattle.std.proofs.lemmas.Int.{ints, by_lt_z}
-use Rattle.std.proofs.lemmas.Float.{T_from_true}
-use Rattle.std.proofs.lemmas.Bool.{ltb-true, ltb-false}
-use Rattle.std.proofs.lemmas.Option.{slice_get_cases, slice_get_within, get_or_from_slice_get}
-use Rattle.plan_base.specs.declared.modes.Mode.{Mode}
-use Rattle.mode_network.specs.declared.nodes.Node.{Node}
-use Rattle.mode_network.specs.declared.nodes.NodeKey.{NodeKey}
-use Rattle.mode_network.specs.declared.nodes.NodeKey.TheVariants.{Road, Stop, Switch}
-use Rattle.mode_network.specs.Rules.{IsAscending, IsRoad, node_cmp, rank_of}
-use Rattle.mode_network.specs.Copies.{IsRoadCopy, AreExactly}
+use Rattle.std.proofs.lemmas.Int.{by_lt_z}
+use Rattle.plan_base.specs.{Mode}
+use Rattle.mode_network.specs.{Node, NodeKey, Road, Stop, Switch, IsAscending, IsRoad, node_cmp, rank_of, IsRoadCopy, AreExactly}
 
 first_no_more : (a b : ℤ) (o : Ordering) → ordering_then (int_cmp a b) o ≡ Less → a ≤ℤ b
 first_no_more a b o e = by_order (int_cmp a b) (int_ranks a b) e

@@ -1,20 +1,7 @@
 -- What a binary search finds in the ordered lists of a network.
-use Rattle.std.proofs.Common.{◌≡◌, ℕ, ◌<◌, ◌≤◌, ◌∙◌, List, [], length, Some, None, refl, ap, sym, subst, arith, lit≤, nat_lt, true, false, Bool}
-use Rattle.std.specs.Prelude.{slice_index_or, slice_get}
-use Rattle.std.specs.List.Sorted.{IsNonDecreasingBy, IsPartitionPoint}
-use Rattle.std.specs.Ordering.{ordering_then, ordering_index, ordering_reverse, nat_cmp, MatchOrdering}
-use Rattle.std.proofs.Math.Nat.{le_refl}
-use Rattle.std.proofs.lemmas.Bool.{ltb-true, ltb-false}
-use Rattle.std.specs.declared.cmp.Ordering.{Ordering}
-use Rattle.std.specs.declared.cmp.Ordering.TheVariants.{Less, Equal, Greater}
-use Rattle.std.specs.Cmp.{IsTotalOrder, nat_cmp_is, ranks as nat_ranks}
-use Rattle.std.proofs.lemmas.List.{get_or_default}
-use Rattle.std.proofs.lemmas.Option.{slice_get-get_or, slice_get_within, get_or_from_slice_get}
-use Rattle.std.proofs.lemmas.Map.Lookups.{exact_bytes}
-use Rattle.mode_network.specs.Copies.{IsPlaceOf}
-use Rattle.mode_network.specs.declared.nodes.Arc.{Arc}
-use Rattle.mode_network.specs.Rules.{IsAscending, arc_cmp, name_cmp}
-use Rattle.mode_network.specs.Journeys.{Leads}
+use Rattle.plan_base.proofs.Common.{◌≡◌, ℕ, ◌<◌, ◌≤◌, ◌∙◌, List, [], length, Some, None, refl, ap, sym, subst, arith, lit≤, nat_lt, true, false, Bool, slice_index_or, slice_get, IsNonDecreasingBy, IsPartitionPoint, ordering_then, ordering_index, ordering_reverse, nat_cmp, MatchOrdering, le_refl, ltb-true, ltb-false, Ordering, Less, Equal, Greater, IsTotalOrder, ranks as nat_ranks, get_or_default, slice_get-get_or, slice_get_within, get_or_from_slice_get, exact_bytes}
+use Rattle.std.specs.Cmp.{nat_cmp_is}
+use Rattle.mode_network.specs.{IsPlaceOf, Arc, IsAscending, arc_cmp, name_cmp, Leads}
 use Rattle.mode_network.proofs.RuleLemmas.{arcs_total, names_total}
 
 index_most : (o : Ordering) → ordering_index o ≤ 2

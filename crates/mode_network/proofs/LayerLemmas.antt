@@ -1,30 +1,10 @@
 -- The road nodes of one mode, and their points.
-use Rattle.std.proofs.Common.{◌≡◌, ℕ, ℤ, zero, suc, ◌<◌, ◌≤◌, ◌<ℤ◌, ◌-◌, ◌^◌, ◌&&◌, ◌∙◌, ◌⊎◌, inl, inr, Bool, true, false, int_eq, List, [], ◌∷◌, length, cond, Option, Some, None, refl, ap, ap₂, sym, subst, arith}
-use Rattle.std.specs.Prelude.{All, Contains, filter, slice_get, slice_index_or, option_map}
-use Rattle.std.specs.List.Sorted.{IsNonDecreasingBy, IsPartitionPoint}
-use Rattle.std.specs.Ordering.{ordering_then, ordering_index, int_cmp, nat_cmp, MatchOrdering}
-use Rattle.std.specs.declared.cmp.Ordering.{Ordering}
-use Rattle.std.specs.declared.cmp.Ordering.TheVariants.{Less, Equal, Greater}
-use Rattle.std.specs.Cmp.{int_ranks, ranks as nat_ranks}
-use Rattle.std.proofs.lemmas.Bool.Decides.{Decides-int_eq}
-use Rattle.std.proofs.lemmas.List.{get_or-map, length-map}
-use Rattle.std.proofs.lemmas.List.Elements.{All-contains, All-contains_itself, All-filter, All-map, All-weaker, filter_passes}
-use Rattle.std.proofs.lemmas.List.Folds.{Any-from_list_any, list_any_at}
-use Rattle.std.proofs.lemmas.Option.{none-some, same_Some, slice_get_cases, slice_get-get_or, slice_get_within, get_or_from_slice_get}
-use Rattle.plan_base.specs.declared.modes.Mode.{Mode}
-use Rattle.plan_base.specs.Modes.{number_of_mode}
-use Rattle.plan_base.specs.declared.places.Place.{Place}
-use Rattle.geo_length.specs.Nearest.{Point, IsClosest, IsNearest}
-use Rattle.mode_network.specs.declared.nodes.Node.{Node}
-use Rattle.mode_network.specs.declared.nodes.NodeKey.{NodeKey}
-use Rattle.mode_network.specs.declared.nodes.NodeKey.TheVariants.{Road, Stop, Switch}
-use Rattle.mode_network.specs.NetworkLists.{mode_of}
-use Rattle.mode_network.specs.Rules.{IsAscending, IsRoad, is_same_mode, node_cmp, rank_of}
-use Rattle.mode_network.specs.Copies.{AreExactly, IsCopyIn, IsNearCopyIn, IsNearestIn, layer_nodes, layer_points, point_of, road_points}
-use Rattle.mode_network.specs.Points.{HoldSame, has_point, is_same_point}
-use Rattle.mode_network.proofs.RuleLemmas.{both, nodes_total, mode_by_number, same_mode_is, mode_is_same}
-use Rattle.mode_network.proofs.FindLemmas.{answers_rise, not_before, not_there, self_equal}
-use Rattle.mode_network.proofs.NearLemmas.{nearest_found, same_id, same_nearest, same_point}
+use Rattle.plan_base.proofs.Common.{◌≡◌, ℕ, ℤ, zero, suc, ◌<◌, ◌≤◌, ◌<ℤ◌, ◌-◌, ◌^◌, ◌&&◌, ◌∙◌, ◌⊎◌, inl, inr, Bool, true, false, int_eq, List, [], ◌∷◌, length, cond, Option, Some, None, refl, ap, ap₂, sym, subst, arith, All, Contains, filter, slice_get, slice_index_or, option_map, IsNonDecreasingBy, IsPartitionPoint, ordering_then, ordering_index, int_cmp, nat_cmp, MatchOrdering, Ordering, Less, Equal, Greater, int_ranks, ranks as nat_ranks, Decides-int_eq, get_or-map, length-map, All-contains, All-contains_itself, All-filter, All-map, All-weaker, filter_passes, list_any_at, none-some, same_Some, slice_get_cases, slice_get-get_or, slice_get_within, get_or_from_slice_get}
+use Rattle.std.proofs.lemmas.List.Folds.{Any-from_list_any}
+use Rattle.plan_base.specs.{Mode, number_of_mode, Place}
+use Rattle.geo_length.specs.{Point, IsClosest, IsNearest}
+use Rattle.mode_network.specs.{Node, NodeKey, Road, Stop, Switch, mode_of, IsAscending, IsRoad, is_same_mode, node_cmp, rank_of, AreExactly, IsCopyIn, IsNearCopyIn, IsNearestIn, layer_nodes, layer_points, point_of, road_points, HoldSame, has_point, is_same_point}
+use Rattle.mode_network.proofs.{RuleLemmas.both, RuleLemmas.nodes_total, RuleLemmas.mode_by_number, RuleLemmas.same_mode_is, RuleLemmas.mode_is_same, FindLemmas.answers_rise, FindLemmas.not_before, FindLemmas.not_there, FindLemmas.self_equal, NearLemmas.nearest_found, NearLemmas.same_id, NearLemmas.same_nearest, NearLemmas.same_point}
 
 -- ---- points of a list
 

@@ -1,4 +1,5 @@
 pub mod RuleLemmas
+pub mod KeyLemmas
 pub mod IndexLemmas
 pub mod FindLemmas
 pub mod CopyLemmas

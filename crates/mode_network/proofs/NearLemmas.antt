@@ -1,21 +1,11 @@
 -- The nearest road node of a place has one id and one length.
-use Rattle.std.proofs.Common.{◌≡◌, ℕ, ℤ, pos, ◌≤◌, ◌<◌, ◌≤ℤ◌, ◌^◌, ◌-◌, List, [], ◌∷◌, ◌++◌, Option, Some, None, arith, ap, subst, sym, refl, ap₂, true, ◌&&◌, int_eq, ◌∙◌, ◌+◌, take, length, get_or}
-use Rattle.std.specs.Prelude.{Contains, All}
-use Rattle.std.proofs.lemmas.List.Elements.{All-contains, All-push, All-weaker, Contains-append_left, Contains-push}
-use Rattle.std.specs.List.Sorted.{IsPermutation}
-use Rattle.std.proofs.lemmas.List.Sorted.{All-permutation, Contains-permutation}
-use Rattle.std.proofs.lemmas.List.{take_more, map-append}
-use Rattle.std.proofs.lemmas.Bool.Decides.{Decides-int_eq}
-use Rattle.std.proofs.lemmas.Int.{ints}
-use Rattle.plan_base.specs.declared.places.Place.{Place}
-use Rattle.geo_length.specs.Nearest.{Point, IsClosest, IsNearest, length_to}
+use Rattle.plan_base.proofs.Common.{◌≡◌, ℕ, ℤ, pos, ◌≤◌, ◌<◌, ◌≤ℤ◌, ◌^◌, ◌-◌, List, [], ◌∷◌, ◌++◌, Option, Some, None, arith, ap, subst, sym, refl, ap₂, true, ◌&&◌, int_eq, ◌∙◌, ◌+◌, take, length, get_or, Contains, All, All-contains, All-push, All-weaker, Contains-append_left, Contains-push, IsPermutation, All-permutation, Contains-permutation, take_more, map-append, Decides-int_eq, ints, same_Some}
+use Rattle.plan_base.specs.{Place}
+use Rattle.geo_length.specs.{Point, IsClosest, IsNearest, length_to}
 use Rattle.geo_length.proofs.LengthLaws.{length-few}
 use Rattle.plan_base.proofs.PlaceAgain.{place_again, place_is}
-use Rattle.std.proofs.lemmas.Option.{same_Some}
 use Rattle.mode_network.proofs.RuleLemmas.{both}
-use Rattle.mode_network.specs.declared.nodes.Node.{Node}
-use Rattle.mode_network.specs.Copies.{point_of, road_points, IsRoadCopy, IsNearCopy, IsNearestRoad, AreExactly}
-use Rattle.mode_network.specs.Points.{HoldSame}
+use Rattle.mode_network.specs.{Node, point_of, road_points, IsRoadCopy, IsNearCopy, IsNearestRoad, AreExactly, HoldSame}
 
 module _ (points : List Point) (place : Place) where
   no_longer : (a b : ℤ) (mm nn : ℕ) → IsClosest points place a mm → IsClosest points place b nn → nn ≤ mm

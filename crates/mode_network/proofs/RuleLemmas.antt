@@ -1,29 +1,8 @@
 -- What follows for the lists of a network from that no rule is broken.
-use Rattle.std.proofs.Common.{◌≡◌, ℕ, ◌+◌, ◌<◌, ◌≤◌, length-append, ◌++◌, subst, not, ◌&&◌, nat_lt, suc, zero, Bool, true, false, List, [], ◌∷◌, length, Option, None, Some, cond, refl, arith, ap, sym, ◌∙◌, lit<}
-use Rattle.std.proofs.Math.Nat.{le_trans}
-use Rattle.std.specs.Prelude.{All, slice_index_or}
-use Rattle.std.specs.Ordering.{is_lt}
-use Rattle.std.specs.declared.cmp.Ordering.{Ordering}
-use Rattle.std.specs.declared.cmp.Ordering.TheVariants.{Less, Equal, Greater}
-use Rattle.std.specs.Cmp.{IsTotalOrder}
-use Rattle.std.specs.List.{position, position_or_len, prefix_len}
-use Rattle.std.proofs.lemmas.Bool.{ltb-true, ltb-false, eqb-true, eq-eqb}
-use Rattle.std.proofs.lemmas.List.Kept.{AllPairs-cons}
-use Rattle.std.proofs.lemmas.List.Elements.{All-cons}
-use Rattle.plan_base.specs.Modes.{mode_numbered, number_of_mode}
-use Rattle.plan_base.specs.declared.modes.Mode.{Mode}
-use Rattle.plan_base.specs.declared.modes.Mode.TheVariants.{Foot, Bike, Car}
-use Rattle.plan_base.specs.declared.limits.Kind.{Kind}
-use Rattle.mode_network.specs.declared.faults.NetFault.{NetFault}
-use Rattle.std.proofs.lemmas.Cmp.{then_total, on_total, nat_cmp_total, int_cmp_total, nat_list_cmp_total}
-use Rattle.plan_base.specs.declared.limits.Caps.{Caps}
-use Rattle.timetable_arcs.specs.TripRules.{AreTrips}
-use Rattle.mode_network.specs.declared.nodes.Node.{Node}
-use Rattle.mode_network.specs.declared.nodes.Arc.{Arc}
-use Rattle.std.specs.Prelude.{slice_get, option_map}
-use Rattle.std.proofs.lemmas.Option.{option_and_then_some, slice_get_within}
-use Rattle.mode_network.specs.NetworkLists.{NetworkLists, nodes_of, mode_of, mode_at, letter_at}
-use Rattle.mode_network.specs.Rules.{rank_of, node_cmp, name_cmp, arc_cmp, first_unsorted, lists_fault, IsAscending, is_same_mode, AreNamed, AreNames, AreParts, HaveDurations, IsNetwork, or_else, end_or_order_fault, unsorted_fault}
+use Rattle.plan_base.proofs.Common.{◌≡◌, ℕ, ◌+◌, ◌<◌, ◌≤◌, length-append, ◌++◌, subst, not, ◌&&◌, nat_lt, suc, zero, Bool, true, false, List, [], ◌∷◌, length, Option, None, Some, cond, refl, arith, ap, sym, ◌∙◌, lit<, le_trans, All, slice_index_or, is_lt, Ordering, Less, Equal, Greater, IsTotalOrder, position, position_or_len, prefix_len, ltb-true, ltb-false, eqb-true, eq-eqb, AllPairs-cons, All-cons, then_total, on_total, nat_cmp_total, int_cmp_total, nat_list_cmp_total, slice_get, option_map, option_and_then_some, slice_get_within}
+use Rattle.plan_base.specs.{mode_numbered, number_of_mode, Mode, Foot, Bike, Car, Kind, Caps}
+use Rattle.mode_network.specs.{NetFault, Node, Arc, nodes_of, mode_of, mode_at, letter_at, rank_of, node_cmp, name_cmp, arc_cmp, first_unsorted, lists_fault, IsAscending, is_same_mode, AreNamed, AreNames, AreParts, HaveDurations, IsNetwork, or_else, end_or_order_fault, unsorted_fault, NetworkLists.NetworkLists}
+use Rattle.timetable_arcs.specs.{AreTrips}
 
 less_of : (o : Ordering) → is_lt o ≡ true → o ≡ Less
 less_of Less e = refl

@@ -1,14 +1,9 @@
 -- Which nodes an endpoint of a query names.
 use Rattle.std.specs.Prelude.{◌≡◌, ℕ, ℤ, ◌<◌, ◌≤◌, ◌↔◌, List, [], map, filter, Option, Some, None, slice_get, option_map}
-use Rattle.plan_base.specs.declared.modes.Mode.{Mode}
-use Rattle.plan_base.specs.declared.places.Place.{Place}
-use Rattle.geo_length.specs.Nearest.{Point, IsClosest}
-use Rattle.mode_network.specs.declared.nodes.Node.{Node}
-use Rattle.mode_network.specs.declared.nodes.NodeKey.TheVariants.{Road as RoadKey}
-use Rattle.mode_network.specs.declared.endpoints.Endpoint.{Endpoint}
-use Rattle.mode_network.specs.declared.endpoints.Endpoint.TheVariants.{Road, Stop, Near, NearIn}
-use Rattle.mode_network.specs.NetworkLists.{NetworkLists, mode_of, stop_node}
-use Rattle.mode_network.specs.Rules.{is_same_mode, rank_of}
+use Rattle.plan_base.specs.{Mode, Place}
+use Rattle.geo_length.specs.{Point, IsClosest}
+use Rattle.mode_network.specs.{declared.nodes.Node.Node, declared.nodes.NodeKey.TheVariants.Road as RoadKey, declared.endpoints.Endpoint.TheVariants.Road, declared.endpoints.Endpoint.TheVariants.Stop, NetworkLists.NetworkLists, NetworkLists.mode_of, NetworkLists.stop_node, Rules.is_same_mode, Rules.rank_of}
+pub use Rattle.mode_network.specs.{declared.endpoints.Endpoint.Endpoint, declared.endpoints.Endpoint.TheVariants.Near, declared.endpoints.Endpoint.TheVariants.NearIn}
 
 -- the node is the OSM node of this id, in the layer of this mode; and of some mode
 abbrev pub IsCopyIn : List Node → Mode → ℤ → ℕ → Type 0

@@ -1,19 +1,24 @@
 -- What a network keeps beside its lists, so that they are found fast.
 use Rattle.std.specs.Prelude.{◌≡◌, ℕ, ◌+◌, ◌<◌, ◌≤◌, ◌==◌, ◌||◌, nat_lt, Bool, List, length, map, count_by, slice_range, slice_index_or}
 use Rattle.std.specs.List.{list_any}
-use Rattle.search_laws.specs.declared.graph.Leg.{Leg}
-use Rattle.mode_network.specs.declared.nodes.Arc.{Arc}
-use Rattle.mode_network.specs.declared.nodes.Node.{Node}
-use Rattle.mode_network.specs.declared.indexes.NodeRow.{NodeRow}
-use Rattle.mode_network.specs.NetworkLists.{NetworkLists, nodes_of, mode_at}
+use Rattle.search_laws.specs.{Leg}
+use Rattle.mode_network.specs.{declared.nodes.Arc.Arc, declared.nodes.Node.Node, NetworkLists.NetworkLists, NetworkLists.nodes_of, NetworkLists.mode_at}
+pub use Rattle.mode_network.specs.declared.indexes.NodeRow.{NodeRow}
 
--- how many arcs begin below the node v
+-- how many rows have a key below v
+abbrev pub count_below : {X : Type 0} → (X → ℕ) → List X → ℕ → ℕ
+count_below key rows v = count_by (λ row. nat_lt (key row) v) rows
+
+-- where those whose key is v stand in a list that is ordered by the key: the first place, and one past the last
+abbrev pub range_of : {X : Type 0} → (X → ℕ) → List X → ℕ → ℕ × ℕ
+range_of key rows v = (count_below key rows v, count_below key rows (v + 1))
+
+-- how many arcs begin below the node v, and where those that begin at v stand in a list that is ordered by `from`
 abbrev pub arcs_begun_below : List Arc → ℕ → ℕ
-arcs_begun_below arcs v = count_by (λ arc. nat_lt arc.from v) arcs
+arcs_begun_below = count_below (λ arc. arc.from)
 
--- where those that begin at v stand in a list that is ordered by `from`: the first place, and one past the last
 abbrev pub range_from : List Arc → ℕ → ℕ × ℕ
-range_from arcs v = (arcs_begun_below arcs v, arcs_begun_below arcs (v + 1))
+range_from = range_of (λ arc. arc.from)
 
 -- where an arc leads, and how long it takes
 abbrev pub leg_of : Arc → Leg

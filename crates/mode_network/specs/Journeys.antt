@@ -1,12 +1,9 @@
 -- Journeys over a network.
 use Rattle.std.specs.Prelude.{◌≡◌, ℕ, ◌+◌, ◌≤◌, List, [], ◌∷◌, ◌++◌, Option, Some, None, Contains, option_to_list}
-use Rattle.search_laws.specs.Collapse.{collapse}
-use Rattle.timetable_arcs.specs.declared.trips.Call.{Call}
-use Rattle.timetable_arcs.specs.Trips.{TripLists, IsRide, arrival_of, departure_of}
-use Rattle.mode_network.specs.declared.nodes.Arc.{Arc}
-use Rattle.mode_network.specs.declared.steps.Step.{Step}
-use Rattle.mode_network.specs.declared.steps.Step.TheVariants.{Wait, Road, Link, Stand, Ride}
-use Rattle.mode_network.specs.NetworkLists.{NetworkLists, letter_at, stop_node}
+use Rattle.search_laws.specs.{collapse}
+use Rattle.timetable_arcs.specs.{Call, TripLists, IsRide, arrival_of, departure_of}
+use Rattle.mode_network.specs.{declared.nodes.Arc.Arc, declared.steps.Step.TheVariants.Road, NetworkLists.NetworkLists, NetworkLists.letter_at, NetworkLists.stop_node}
+pub use Rattle.mode_network.specs.{declared.steps.Step.Step, declared.steps.Step.TheVariants.Wait, declared.steps.Step.TheVariants.Link, declared.steps.Step.TheVariants.Stand, declared.steps.Step.TheVariants.Ride}
 
 -- where and when a journey starts, and its steps
 pub record Route : Type 0 where

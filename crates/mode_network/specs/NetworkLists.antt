@@ -1,12 +1,8 @@
 use Rattle.std.specs.Prelude.{ℕ, ◌+◌, ◌-◌, ◌&&◌, nat_le, nat_lt, if◌then◌else◌, List, ◌++◌, length, Option, None, Some, slice_get, option_and_then, option_map}
-use Rattle.plan_base.specs.Modes.{number_of_mode}
-use Rattle.plan_base.specs.declared.modes.Mode.{Mode}
+use Rattle.plan_base.specs.{number_of_mode, Mode}
 use Rattle.service_days.specs.DaysMeaning.{DaysMeaning}
-use Rattle.timetable_arcs.specs.Trips.{TripLists}
-use Rattle.mode_network.specs.declared.nodes.Node.{Node}
-use Rattle.mode_network.specs.declared.nodes.Arc.{Arc}
-use Rattle.mode_network.specs.declared.nodes.NodeKey.{NodeKey}
-use Rattle.mode_network.specs.declared.nodes.NodeKey.TheVariants.{Road, Stop, Switch}
+use Rattle.timetable_arcs.specs.{TripLists}
+pub use Rattle.mode_network.specs.{declared.nodes.Node.Node, declared.nodes.Arc.Arc, declared.nodes.NodeKey.NodeKey, declared.nodes.NodeKey.TheVariants.Road, declared.nodes.NodeKey.TheVariants.Stop, declared.nodes.NodeKey.TheVariants.Switch}
 
 -- what a network consists of, as lists
 pub record NetworkLists : Type 0 where

@@ -3,9 +3,8 @@ use Rattle.std.specs.Prelude.{Bool, List, All, Contains, ◌&&◌}
 use Rattle.std.specs.List.{list_any}
 use Rattle.std.specs.Ordering.{int_eq}
 use Rattle.std.proofs.Props.{props}
-use Rattle.geo_length.specs.Nearest.{Point}
-use Rattle.mode_network.specs.declared.nodes.Node.{Node}
-use Rattle.mode_network.specs.Rules.{IsAscending, IsRoad, IsRoad-prop, node_cmp}
+use Rattle.geo_length.specs.{Point}
+use Rattle.mode_network.specs.{declared.nodes.Node.Node, Rules.IsAscending, Rules.IsRoad, Rules.IsRoad-prop, Rules.node_cmp}
 
 -- each point of the one list is in the other
 pub record HoldSame (xs ys : List Point) : Type 0 where

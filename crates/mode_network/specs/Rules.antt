@@ -1,28 +1,14 @@
-use Rattle.std.specs.Prelude.{[], ◌∷◌, ◌≡◌, ℕ, ℤ, pos, ◌+◌, ◌<◌, ◌≤◌, ◌^◌, ◌==◌, ◌&&◌, nat_lt, nat_le, Bool, true, false, not, if◌then◌else◌, List, length, Option, None, Some, All, AllPairs, slice_index_or, option_map}
-use Rattle.std.specs.List.Sorted.{IsPermutation, IsSorted}
+use Rattle.std.specs.Prelude.{[], ◌∷◌, ◌≡◌, ℕ, ℤ, pos, ◌+◌, ◌<◌, ◌≤◌, ◌^◌, ◌==◌, ◌&&◌, nat_lt, nat_le, Bool, true, false, not, if◌then◌else◌, List, length, Option, None, Some, All, AllPairs, slice_index_or, option_map, IsPermutation, IsSorted, position}
 use Rattle.std.specs.Cmp.Lexicographic.{slice_cmp}
-use Rattle.std.specs.List.{position}
 use Rattle.std.specs.Ordering.{ordering_then, nat_cmp, int_cmp, is_lt}
 use Rattle.std.specs.declared.cmp.Ordering.{Ordering}
 use Rattle.std.specs.declared.cmp.Ordering.TheVariants.{Less}
 use Rattle.std.proofs.Props.{props}
-use Rattle.plain_texts.specs.Names.{is_name}
-use Rattle.plain_texts.specs.Numbers.{IsId}
-use Rattle.plan_base.specs.Modes.{number_of_mode}
-use Rattle.plan_base.specs.declared.modes.Mode.{Mode}
-use Rattle.plan_base.specs.declared.limits.Caps.{Caps}
-use Rattle.plan_base.specs.declared.limits.Kind.{Kind}
-use Rattle.plan_base.specs.declared.limits.Kind.TheVariants.{Nodes, Arcs, Links, Stops}
-use Rattle.timetable_arcs.specs.TripRules.{table_fault, AreTrips}
-use Rattle.timetable_arcs.specs.Trips.{TripLists}
-use Rattle.timetable_arcs.specs.declared.faults.TableFault.{TableFault}
-use Rattle.mode_network.specs.declared.nodes.Node.{Node}
-use Rattle.mode_network.specs.declared.nodes.Arc.{Arc}
-use Rattle.mode_network.specs.declared.nodes.NodeKey.{NodeKey}
-use Rattle.mode_network.specs.declared.nodes.NodeKey.TheVariants.{Road, Stop, Switch}
-use Rattle.mode_network.specs.declared.faults.NetFault.{NetFault}
-use Rattle.mode_network.specs.declared.faults.NetFault.TheVariants.{OutOfOrder, BadEnd, Table, TooMany, OutOfMemory}
-use Rattle.mode_network.specs.NetworkLists.{NetworkLists, nodes_of, mode_at}
+use Rattle.plain_texts.specs.{is_name, IsId}
+use Rattle.plan_base.specs.{number_of_mode, Mode, Caps, Kind, Nodes, Arcs, Links, Stops}
+use Rattle.timetable_arcs.specs.{table_fault, AreTrips, TripLists, TableFault}
+use Rattle.mode_network.specs.{declared.nodes.Node.Node, declared.nodes.Arc.Arc, declared.nodes.NodeKey.NodeKey, declared.nodes.NodeKey.TheVariants.Road, declared.nodes.NodeKey.TheVariants.Stop, declared.nodes.NodeKey.TheVariants.Switch, declared.faults.NetFault.NetFault, declared.faults.NetFault.TheVariants.Table, NetworkLists.NetworkLists, NetworkLists.nodes_of, NetworkLists.mode_at}
+pub use Rattle.mode_network.specs.declared.faults.NetFault.TheVariants.{OutOfOrder, BadEnd, TooMany, OutOfMemory}
 
 -- ids and then modes: what road nodes are ordered by, and switches, which have no mode
 abbrev pub rank_of : NodeKey → ℤ × ℕ

@@ -1,8 +1,7 @@
 -- A fault of a timetable as one of a network.
-use Rattle.timetable_arcs.specs.declared.faults.TableFault.{TableFault}
-use Rattle.timetable_arcs.specs.declared.faults.TableFault.TheVariants.{TimeGoesBack, UnknownStop, BadTrip, TooMany, OutOfMemory}
-use Rattle.mode_network.specs.declared.faults.NetFault.{NetFault}
-use Rattle.mode_network.specs.declared.faults.NetFault.TheVariants.{Table, OutOfMemory as NoMemory}
+use Rattle.timetable_arcs.specs.{TableFault, TimeGoesBack, UnknownStop, BadTrip, TooMany, OutOfMemory}
+pub use Rattle.mode_network.specs.{declared.faults.NetFault.NetFault, declared.faults.NetFault.TheVariants.Table}
+use Rattle.mode_network.specs.declared.faults.NetFault.TheVariants.{OutOfMemory as NoMemory}
 
 abbrev pub table_fault_as : TableFault → NetFault
 table_fault_as OutOfMemory = NoMemory

@@ -1,7 +1,7 @@
 -- The timetable of a network.
 use Rattle.std.specs.Prelude.{◌≡◌, length}
 use Rattle.std.proofs.Props.{props}
-use Rattle.timetable_arcs.specs.Patterns.{TableLists}
+use Rattle.timetable_arcs.specs.{TableLists}
 use Rattle.mode_network.specs.NetworkLists.{NetworkLists}
 
 -- a table has the network's trips, over its days and its stops; how their runs are sorted into patterns is left free

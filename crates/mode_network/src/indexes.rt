@@ -1,6 +1,6 @@
 //! Tables that find what a network holds: the mode, the arcs and the links of a node, and the nearest road node.
 
-ghost use Rattle.std.specs.Prelude.{◌≡◌, ◌+◌, ◌<◌, ◌≤◌, ◌^◌, ℕ, length, map, All, IfOk, slice_index_or};
+ghost use Rattle.std.specs.Prelude.{◌≡◌, ◌+◌, ◌<◌, ◌≤◌, ◌^◌, length, map, All, IfOk, slice_index_or};
 ghost use Rattle.std.specs.List.{AllWithin};
 ghost use Rattle.mode_network.specs.declared.nodes.Arc.{Arc};
 ghost use Rattle.mode_network.specs.Rules.{IsAscending, arc_cmp};

@@ -1,8 +1,8 @@
 //! A network: its lists, and what finds things in them.
 
-ghost use Rattle.std.specs.Prelude.{◌≡◌, ◌<◌, ◌≤◌, ◌^◌, ◌↔◌, ℕ, Some, None, [], ◌++◌, length, All, IfOk, OnOk, IfErr, slice_get, true};
+ghost use Rattle.std.specs.Prelude.{◌≡◌, ◌<◌, ◌^◌, Some, None, [], ◌++◌, length, All, IfOk, OnOk, IfErr, slice_get, true};
 ghost use Rattle.mode_network.specs.NetworkLists.{nodes_of, mode_at, letter_at, stop_at, stop_node};
-ghost use Rattle.mode_network.specs.Rules.{AreParts, IsNetwork, IsFaultOf, IsAscending, IsRoad, arc_cmp, node_cmp, name_cmp, rank_of, first_fault};
+ghost use Rattle.mode_network.specs.Rules.{AreParts, IsNetwork, IsFaultOf, IsAscending, IsRoad, arc_cmp, node_cmp, name_cmp, first_fault};
 ghost use Rattle.mode_network.specs.Journeys.{IsDuration};
 ghost use Rattle.plain_texts.specs.Names.{is_name};
 ghost use Rattle.mode_network.specs.Timetables.{IsTimetableOf};

@@ -1,6 +1,6 @@
 //! The first rule that the parts of a network break.
 
-ghost use Rattle.std.specs.Prelude.{◌≡◌, ◌<◌, ◌^◌, length, not, option_map, true};
+ghost use Rattle.std.specs.Prelude.{◌≡◌, ◌<◌, ◌^◌, length, not, true};
 ghost use Rattle.std.specs.List.{position};
 ghost use Rattle.mode_network.specs.NetworkLists.{nodes_of};
 ghost use Rattle.mode_network.specs.Rules.{joins_modes, joins_layers, end_or_order_fault, unsorted_fault, count_fault, lists_fault, arcs_fault, links_fault, AreNamed, AreNames, HaveDurations};

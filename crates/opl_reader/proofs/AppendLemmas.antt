@@ -1,11 +1,8 @@
 -- Bytes may be taken in any pieces.
-use Rattle.std.proofs.Common.{◌≡◌, ℕ, List, [], ◌∷◌, ◌++◌, refl, sym, ap, ◌∙◌, Bool, true, false, append_assoc, Ok, Err, Result}
-use Rattle.std.specs.List.{slice_split, onto_first}
-use Rattle.std.proofs.lemmas.List.{append-nil}
+use Rattle.plan_base.proofs.Common.{◌≡◌, ℕ, List, [], ◌∷◌, ◌++◌, refl, sym, ap, ◌∙◌, Bool, true, false, append_assoc, Ok, Err, Result, slice_split, onto_first, append-nil}
 use Rattle.std.proofs.lemmas.List.Splits.{slice_split-cons_yes, slice_split-cons_no}
-use Rattle.plain_texts.specs.Lines.{pieces, is_feed}
-use Rattle.opl_reader.specs.declared.objects.OplFault.{OplFault}
-use Rattle.opl_reader.specs.Readers.{ReaderState, on_ok, holding, with_end, with_pieces, with_bytes}
+use Rattle.plain_texts.specs.{pieces, is_feed}
+use Rattle.opl_reader.specs.{OplFault, ReaderState, on_ok, holding, with_end, with_pieces, with_bytes}
 use Rattle.opl_reader.proofs.ByteLemmas.{ends_line, some_pieces}
 
 holding_nothing : (s : ReaderState) → holding s [] ≡ s

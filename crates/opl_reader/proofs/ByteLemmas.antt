@@ -1,13 +1,8 @@
 -- How bytes are taken, line by line.
-use Rattle.std.proofs.Common.{◌≡◌, ℕ, ◌<◌, List, [], ◌∷◌, length, refl, ap, ◌∙◌, arith, Some, None, Ok, Result}
-use Rattle.std.specs.List.{slice_split}
+use Rattle.plan_base.proofs.Common.{◌≡◌, ℕ, ◌<◌, List, [], ◌∷◌, length, refl, ap, ◌∙◌, arith, Some, None, Ok, Result, slice_split}
 use Rattle.std.proofs.lemmas.List.Splits.{length-slice_split}
-use Rattle.plain_texts.specs.Lines.{pieces, is_feed}
-use Rattle.opl_reader.specs.declared.objects.OplFault.{OplFault}
-use Rattle.opl_reader.specs.declared.objects.OplFault.TheVariants.{BadLine, RepeatedObject, TooMany, OutOfMemory}
-use Rattle.opl_reader.specs.Cuts.{is_byte, cut_of}
-use Rattle.opl_reader.specs.Gathered.{IsFaultOf}
-use Rattle.opl_reader.specs.Readers.{ReaderState, on_ok, holding, with_end, with_pieces, with_bytes}
+use Rattle.plain_texts.specs.{pieces, is_feed}
+use Rattle.opl_reader.specs.{OplFault, BadLine, RepeatedObject, TooMany, OutOfMemory, is_byte, cut_of, IsFaultOf, ReaderState, on_ok, holding, with_end, with_pieces, with_bytes}
 use Rattle.opl_reader.proofs.CutLemmas.{cut_some, cut_none}
 
 -- a fault stays what follows

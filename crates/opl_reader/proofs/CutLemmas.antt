@@ -1,13 +1,7 @@
 -- A cut at a byte is the first step of the cut at each such byte.
-use Rattle.std.proofs.Common.{◌≡◌, refl, sym, ℕ, List, [], ◌∷◌, length, take, drop, ap, ◌∙◌, ◌<◌, ◌≤◌, ◌+◌, arith, Bool, true, false, cond}
-use Rattle.std.specs.Prelude.{Option, Some, None, option_map, nat_lt, position}
-use Rattle.std.specs.List.{slice_split, position_or_len, before_first, after_first}
-use Rattle.std.proofs.lemmas.Bool.Decides.{nat_tests}
-use Rattle.std.proofs.lemmas.List.Splits.{slice_split_none, slice_split_first}
-use Rattle.std.proofs.lemmas.List.Sums.{fails_before_first}
-use Rattle.std.proofs.lemmas.Option.{none-some, cond_some, some_pair_parts}
-use Rattle.plain_texts.specs.Lines.{around}
-use Rattle.opl_reader.specs.Cuts.{is_byte, cut_of}
+use Rattle.plan_base.proofs.Common.{◌≡◌, refl, sym, ℕ, List, [], ◌∷◌, length, take, drop, ap, ◌∙◌, ◌<◌, ◌≤◌, ◌+◌, arith, Bool, true, false, cond, Option, Some, None, option_map, nat_lt, position, slice_split, position_or_len, before_first, after_first, nat_tests, slice_split_none, slice_split_first, fails_before_first, none-some, cond_some, some_pair_parts}
+use Rattle.plain_texts.specs.{around}
+use Rattle.opl_reader.specs.{is_byte, cut_of}
 
 pub cut_some : (byte : ℕ) (text before behind : List ℕ) → cut_of byte text ≡ Some (before, behind) → slice_split (is_byte byte) text ≡ before ∷ slice_split (is_byte byte) behind
 unfolding cut_of

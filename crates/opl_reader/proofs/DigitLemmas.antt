@@ -1,7 +1,6 @@
 -- Digits that are read one by one, and those that stop the reading.
-use Rattle.std.proofs.Common.{◌≡◌, ℕ, ◌+◌, ◌*◌, ◌<◌, List, length, take, get_or, fold, Bool, true, false, cond, Option, Some, None, option_map, refl, sym}
-use Rattle.std.proofs.lemmas.List.Folds.{fold_stuck}
-use Rattle.plain_texts.specs.Digits.{more}
+use Rattle.plan_base.proofs.Common.{◌≡◌, ℕ, ◌+◌, ◌*◌, ◌<◌, List, length, take, get_or, fold, Bool, true, false, cond, Option, Some, None, option_map, refl, sym, fold_stuck}
+use Rattle.plain_texts.specs.{more}
 
 module _ (digit : ℕ → Option ℕ) (base : ℕ) where
   abbrev step : ℕ → ℕ → Option ℕ

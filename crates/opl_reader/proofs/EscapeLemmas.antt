@@ -1,10 +1,7 @@
 -- How a text is unescaped from its front on.
-use Rattle.std.proofs.Common.{◌≡◌, ℕ, List, ◌∷◌, ◌++◌, refl, sym, ap, ◌∙◌, append_assoc, Option, Some, None}
-use Rattle.std.specs.Prelude.{option_map, encode_utf8}
-use Rattle.std.specs.List.{slice_split}
-use Rattle.opl_reader.specs.Optional.{◌>>=◌}
-use Rattle.opl_reader.specs.Cuts.{is_byte, cut_of}
-use Rattle.opl_reader.specs.Escapes.{character_at, by_turns, unescaped}
+use Rattle.plan_base.proofs.Common.{◌≡◌, ℕ, List, ◌∷◌, ◌++◌, refl, sym, ap, ◌∙◌, append_assoc, Option, Some, None, option_map, slice_split}
+use Rattle.std.proofs.Common.{encode_utf8}
+use Rattle.opl_reader.specs.{◌>>=◌, is_byte, cut_of, character_at, by_turns, unescaped}
 use Rattle.opl_reader.proofs.CutLemmas.{cut_some, cut_none}
 
 two_cuts : (rest plain behind digits after : List ℕ) → cut_of 37 rest ≡ Some (plain, behind) → cut_of 37 behind ≡ Some (digits, after) → slice_split (is_byte 37) rest ≡ plain ∷ digits ∷ slice_split (is_byte 37) after

@@ -1,20 +1,8 @@
 -- An id that is read has at most 18 digits, so each node and way on a line has such an id.
-use Rattle.std.proofs.Common.{◌≡◌, ℕ, zero, suc, ◌+◌, ◌*◌, ◌-◌, ◌^◌, ◌<◌, ◌≤◌, List, [], ◌∷◌, length, map, fold, refl, sym, subst, ◌∙◌, arith, Bool, true, false, cond, ℤ, pos, neg_ℤ, unsigned_abs, Option, Some, None, option_map, IfSome}
-use Rattle.std.specs.Prelude.{nat_le, nat_lt, ◌&&◌, ◌==◌, unwrap_or}
-use Rattle.std.specs.List.{AllByRecursion, list_all}
-use Rattle.std.proofs.lemmas.Bool.Decides.{nat_tests}
-use Rattle.std.proofs.lemmas.Option.{none-some, same_Some, cond_some}
-use Rattle.std.proofs.Math.Nat.{pow-suc}
-use Rattle.plain_texts.specs.Digits.{digit_of, more}
-use Rattle.opl_reader.specs.declared.objects.Element.{Element}
+use Rattle.plan_base.proofs.Common.{◌≡◌, ℕ, zero, suc, ◌+◌, ◌*◌, ◌-◌, ◌^◌, ◌<◌, ◌≤◌, List, [], ◌∷◌, length, map, fold, refl, sym, subst, ◌∙◌, arith, Bool, true, false, cond, ℤ, pos, neg_ℤ, unsigned_abs, Option, Some, None, option_map, IfSome, nat_le, nat_lt, ◌&&◌, ◌==◌, unwrap_or, AllByRecursion, list_all, nat_tests, none-some, same_Some, cond_some, pow-suc}
+use Rattle.plain_texts.specs.{digit_of, more}
+use Rattle.opl_reader.specs.{Element, Line, Passed, Bad, ◌>>=◌, at_blanks, digit_step, osm_id_at, up_to_eighteen_digits_at, IsOsmId, is_field, is_plain_byte, visible_of, place_in, tags_in, references_in, node_by_tags, way_by_tags, node_by_fields, way_by_fields, element_line, words_line, text_line, map_line_of, declared.lines.Line.TheVariants.Node, declared.lines.Line.TheVariants.Way}
 use Rattle.opl_reader.specs.declared.objects.Element.TheVariants as element
-use Rattle.opl_reader.specs.declared.lines.Line.{Line}
-use Rattle.opl_reader.specs.declared.lines.Line.TheVariants.{Passed, Bad, Node, Way}
-use Rattle.opl_reader.specs.Optional.{◌>>=◌}
-use Rattle.opl_reader.specs.Cuts.{at_blanks}
-use Rattle.opl_reader.specs.Ids.{digit_step, osm_id_at, up_to_eighteen_digits_at}
-use Rattle.opl_reader.specs.ObjectLists.{IsOsmId}
-use Rattle.opl_reader.specs.Lines.{is_field, is_plain_byte, visible_of, place_in, tags_in, references_in, node_by_tags, way_by_tags, node_by_fields, way_by_fields, element_line, words_line, text_line, map_line_of}
 use Rattle.opl_reader.proofs.Powers.{powers_up}
 
 fold_none : (ds : List ℕ) → fold (more digit_step) None ds ≡ None

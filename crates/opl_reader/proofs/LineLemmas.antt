@@ -1,13 +1,8 @@
 -- What bytes do is what their lines do.
-use Rattle.std.proofs.Common.{◌≡◌, ℕ, List, [], ◌∷◌, map, refl, Ok, Err, Result}
-use Rattle.plan_base.specs.declared.limits.Caps.{Caps}
-use Rattle.plain_texts.specs.Lines.{pieces, lines_of, lines_of_pieces}
-use Rattle.opl_reader.specs.declared.objects.OplFault.{OplFault}
-use Rattle.opl_reader.specs.declared.lines.Line.{Line}
-use Rattle.opl_reader.specs.Lines.{map_line_of}
-use Rattle.opl_reader.specs.Objects.{all_but_last}
-use Rattle.opl_reader.specs.Gathered.{GatheredLists, with_line, last_line}
-use Rattle.opl_reader.specs.Readers.{ReaderState, on_ok, with_pieces, with_bytes}
+use Rattle.plan_base.proofs.Common.{◌≡◌, ℕ, List, [], ◌∷◌, map, refl, Ok, Err, Result}
+use Rattle.plan_base.specs.{Caps}
+use Rattle.plain_texts.specs.{pieces, lines_of, lines_of_pieces}
+use Rattle.opl_reader.specs.{OplFault, Line, map_line_of, all_but_last, GatheredLists, with_line, last_line, ReaderState, on_ok, with_pieces, with_bytes}
 
 -- lines are added one after another
 abbrev pub with_lines : Caps → GatheredLists → List Line → Result GatheredLists OplFault

@@ -1,24 +1,8 @@
 -- Which nodes have a place, and that no two visible nodes have one id.
-use Rattle.std.proofs.Common.{◌≡◌, List, [], ◌∷◌, ◌++◌, map, refl, sym, ap, subst, ◌∙◌, Bool, true, false, cond, ◌||◌, append_assoc, ℤ, Option, Some, None, is_some, filter_map, option_map}
-use Rattle.std.specs.Option.{option_or}
-use Rattle.std.specs.Prelude.{unwrap_or}
-use Rattle.std.specs.List.{list_any, cons_option, AllByRecursion, IsDistinct}
-use Rattle.std.specs.Map.{lookup}
-use Rattle.std.specs.Ordering.{int_eq}
-use Rattle.std.proofs.lemmas.Cmp.{int_eq_equiv}
-use Rattle.std.proofs.lemmas.Bool.Decides.{Decides-int_eq}
-use Rattle.std.proofs.lemmas.List.{append-nil, map-append}
-use Rattle.std.proofs.lemmas.Map.Keys.{IsDistinct-push, IsDistinct-head, IsDistinct-tail}
-use Rattle.plan_base.specs.declared.limits.Caps.{Caps}
-use Rattle.plan_base.specs.declared.places.Place.{Place}
-use Rattle.opl_reader.specs.declared.objects.OplFault.{OplFault}
-use Rattle.opl_reader.specs.declared.objects.OsmNode.{OsmNode}
-use Rattle.opl_reader.specs.declared.lines.Line.{Line}
-use Rattle.opl_reader.specs.declared.lines.Line.TheVariants.{Passed, Bad, Node, Way}
-use Rattle.opl_reader.specs.declared.lines.NodeLine.{NodeLine}
-use Rattle.opl_reader.specs.ObjectLists.{is_placed}
-use Rattle.opl_reader.specs.Objects.{nodes_on, ways_on, placed, placed_on, has_node, fault_behind, first_line_fault, cut_way, objects_on}
-use Rattle.opl_reader.specs.Gathered.{is_seen_placed, objects_from}
+use Rattle.plan_base.proofs.Common.{◌≡◌, List, [], ◌∷◌, ◌++◌, map, refl, sym, ap, subst, ◌∙◌, Bool, true, false, cond, ◌||◌, append_assoc, ℤ, Option, Some, None, is_some, filter_map, option_map, option_or, unwrap_or, list_any, cons_option, AllByRecursion, lookup, int_eq, int_eq_equiv, Decides-int_eq, append-nil, map-append, IsDistinct-push, IsDistinct-head, IsDistinct-tail}
+use Rattle.std.specs.List.{IsDistinct}
+use Rattle.plan_base.specs.{Caps, Place}
+use Rattle.opl_reader.specs.{OplFault, OsmNode, Line, Passed, Bad, NodeLine, is_placed, nodes_on, ways_on, placed, placed_on, has_node, fault_behind, first_line_fault, cut_way, objects_on, is_seen_placed, objects_from, declared.lines.Line.TheVariants.Node, declared.lines.Line.TheVariants.Way}
 use Rattle.opl_reader.proofs.SeenLemmas.{seen, gathered_on, nodes_more}
 
 abbrev pub node_id : NodeLine → ℤ

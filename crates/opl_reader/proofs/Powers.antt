@@ -1,6 +1,6 @@
 -- Powers grow with the exponent.
-use Rattle.std.proofs.Common.{◌≡◌, ◌-◌, subst, ℕ, zero, suc, ◌+◌, ◌^◌, ◌≤◌, arith, add-zero, le_refl}
-use Rattle.std.proofs.Math.Nat.{add-suc, pow-suc, mul-le-mul_left}
+use Rattle.plan_base.proofs.Common.{◌≡◌, ◌-◌, subst, ℕ, zero, suc, ◌+◌, ◌^◌, ◌≤◌, arith, add-zero, le_refl, pow-suc, mul-le-mul_left}
+use Rattle.std.proofs.Common.{add-suc}
 
 powers : (b i j : ℕ) → 1 ≤ b → b ^ i ≤ b ^ (i + j)
 powers b i zero h = rw (add-zero i) (le_refl (b ^ i))

@@ -1,22 +1,10 @@
 -- What a reader answers, told by the whole text.
-use Rattle.std.proofs.Common.{◌≡◌, ℕ, List, [], ◌++◌, map, refl, sym, ap, subst, ◌∙◌, Option, Some, None, Ok, Err, Result, OnOk, IfOk, IfErr}
+use Rattle.plan_base.proofs.Common.{◌≡◌, ℕ, List, [], ◌++◌, map, refl, sym, ap, subst, ◌∙◌, Option, Some, None, Ok, Err, Result, OnOk, IfOk, IfErr}
 use Rattle.std.specs.Result.{result_err}
-use Rattle.plan_base.specs.declared.limits.Caps.{Caps}
-use Rattle.plain_texts.specs.Lines.{pieces, lines_of}
-use Rattle.opl_reader.specs.declared.objects.OplFault.{OplFault}
-use Rattle.opl_reader.specs.declared.objects.OplFault.TheVariants.{BadLine, RepeatedObject, TooMany, OutOfMemory}
-use Rattle.opl_reader.specs.declared.lines.Line.{Line}
-use Rattle.opl_reader.specs.Lines.{map_line_of}
-use Rattle.opl_reader.specs.ObjectLists.{ObjectLists, AreObjects}
-use Rattle.opl_reader.specs.Objects.{all_but_last, ended_fault, first_line_fault, faultless, objects_on, objects_of_lines, objects_of}
-use Rattle.opl_reader.specs.Gathered.{GatheredLists, nothing_gathered, last_line, objects_from, IsFaultOf}
-use Rattle.opl_reader.specs.Readers.{ReaderState, on_ok, fresh, with_bytes, finished}
-use Rattle.opl_reader.specs.Readings.{HasTaken, IsEndedFault, IsFaultOfEnded}
-use Rattle.opl_reader.proofs.AppendLemmas.{with_both}
-use Rattle.opl_reader.proofs.LineLemmas.{last_piece, ended_bytes, all_bytes}
-use Rattle.opl_reader.proofs.SeenLemmas.{gathered_on, with_all}
-use Rattle.opl_reader.proofs.PlacedLemmas.{objects_are}
-use Rattle.opl_reader.proofs.SoundLemmas.{sound_text}
+use Rattle.plan_base.specs.{Caps}
+use Rattle.plain_texts.specs.{pieces, lines_of}
+use Rattle.opl_reader.specs.{OplFault, BadLine, RepeatedObject, TooMany, OutOfMemory, Line, map_line_of, AreObjects, all_but_last, ended_fault, first_line_fault, faultless, objects_on, objects_of_lines, objects_of, GatheredLists, nothing_gathered, last_line, objects_from, IsFaultOf, ReaderState, on_ok, fresh, with_bytes, finished, HasTaken, IsEndedFault, IsFaultOfEnded, ObjectLists.ObjectLists}
+use Rattle.opl_reader.proofs.{AppendLemmas.with_both, LineLemmas.last_piece, LineLemmas.ended_bytes, LineLemmas.all_bytes, SeenLemmas.gathered_on, SeenLemmas.with_all, PlacedLemmas.objects_are, SoundLemmas.sound_text}
 
 then_on : {A B C : Type 0} (r : Result A OplFault) (f : A → Result B OplFault) (g : B → Result C OplFault) → on_ok (on_ok r f) g ≡ on_ok r (λ a. on_ok (f a) g)
 then_on (Ok a) f g = refl

@@ -1,25 +1,7 @@
 -- What is gathered, told by the lines.
-use Rattle.std.proofs.Common.{◌≡◌, ◌+◌, List, [], ◌∷◌, ◌++◌, length, map, refl, sym, ap, ap₂, ◌∙◌, Bool, ◌||◌, true, false, cond, append_assoc, ℤ, Option, Some, None, Ok, Err, is_some, filter_map, option_to_list, sum_by, add-zero, arith}
-use Rattle.std.specs.Option.{option_or}
-use Rattle.std.specs.Prelude.{nat_lt}
-use Rattle.std.specs.List.{list_any, cons_option}
-use Rattle.std.specs.Map.{lookup}
-use Rattle.std.specs.Ordering.{int_eq}
-use Rattle.std.proofs.lemmas.List.{append-nil, map-append, length-append}
-use Rattle.std.proofs.lemmas.List.Elements.{filter_map-append}
-use Rattle.std.proofs.lemmas.List.Sums.{sum_by-append}
-use Rattle.plan_base.specs.declared.limits.Caps.{Caps}
-use Rattle.plan_base.specs.declared.limits.Kind.TheVariants.{OsmNodes, Ways, Refs}
-use Rattle.opl_reader.specs.declared.objects.OsmNode.{OsmNode}
-use Rattle.opl_reader.specs.declared.objects.OplFault.{OplFault}
-use Rattle.opl_reader.specs.declared.objects.OplFault.TheVariants.{RepeatedObject, TooMany}
-use Rattle.opl_reader.specs.declared.lines.Line.{Line}
-use Rattle.opl_reader.specs.declared.lines.Line.TheVariants.{Passed, Bad, Node, Way}
-use Rattle.opl_reader.specs.declared.lines.NodeLine.{NodeLine}
-use Rattle.opl_reader.specs.declared.lines.WayLine.{WayLine}
-use Rattle.opl_reader.specs.Objects.{node_on, way_on, nodes_on, ways_on, placed, placed_on, references_on, has_node, has_way, fault_behind, first_line_fault, faultless}
-use Rattle.opl_reader.specs.Gathered.{GatheredLists, with_line}
-use Rattle.opl_reader.specs.Readers.{on_ok}
+use Rattle.plan_base.proofs.Common.{◌≡◌, ◌+◌, List, [], ◌∷◌, ◌++◌, length, map, refl, sym, ap, ap₂, ◌∙◌, Bool, ◌||◌, true, false, cond, append_assoc, ℤ, Option, Some, None, Ok, Err, is_some, filter_map, option_to_list, sum_by, add-zero, arith, option_or, nat_lt, list_any, cons_option, lookup, int_eq, append-nil, map-append, length-append, filter_map-append, sum_by-append}
+use Rattle.plan_base.specs.{Caps, OsmNodes, Ways, Refs}
+use Rattle.opl_reader.specs.{OsmNode, OplFault, RepeatedObject, TooMany, Line, Passed, Bad, NodeLine, WayLine, node_on, way_on, nodes_on, ways_on, placed, placed_on, references_on, has_node, has_way, fault_behind, first_line_fault, faultless, GatheredLists, with_line, on_ok, declared.lines.Line.TheVariants.Node, declared.lines.Line.TheVariants.Way}
 use Rattle.opl_reader.proofs.LineLemmas.{with_lines}
 
 abbrev pub seen : NodeLine → ℤ × Bool

@@ -1,24 +1,9 @@
 -- What every map's objects keep.
-use Rattle.std.proofs.Common.{◌≡◌, ℕ, List, [], ◌∷◌, length, map, filter, refl, subst, arith, Bool, true, false, not, cond, ℤ, Option, Some, None, Ok, Result, filter_map, option_map}
-use Rattle.std.specs.Prelude.{nat_le}
-use Rattle.std.specs.List.{AllByRecursion, IsDistinct, cons_option, slice_split, onto_first}
-use Rattle.std.specs.Ordering.{int_eq}
-use Rattle.std.proofs.lemmas.Bool.Decides.{nat_tests}
-use Rattle.std.proofs.lemmas.Map.Keys.{IsDistinct-cons, IsDistinct-head, IsDistinct-tail}
-use Rattle.plan_base.specs.declared.limits.Caps.{Caps}
-use Rattle.plan_base.specs.declared.places.Place.{Place}
-use Rattle.plain_texts.specs.Lines.{lines_of}
-use Rattle.opl_reader.specs.declared.objects.OplFault.{OplFault}
-use Rattle.opl_reader.specs.declared.objects.OsmNode.{OsmNode}
-use Rattle.opl_reader.specs.declared.lines.Line.{Line}
-use Rattle.opl_reader.specs.declared.lines.Line.TheVariants.{Passed, Bad, Node, Way}
-use Rattle.opl_reader.specs.declared.lines.NodeLine.{NodeLine}
-use Rattle.opl_reader.specs.declared.lines.WayLine.{WayLine}
-use Rattle.opl_reader.specs.Lines.{map_line_of}
-use Rattle.opl_reader.specs.ObjectLists.{ObjectLists, ids_of, is_placed, IsOsmId, IsPiece, AreObjects}
-use Rattle.opl_reader.specs.Objects.{nodes_on, ways_on, placed, placed_on, first_line_fault, faultless, cut_way, objects_on, objects_of}
-use Rattle.opl_reader.proofs.IdLemmas.{HasId, lines_have_ids}
-use Rattle.opl_reader.proofs.PlacedLemmas.{node_id, at_place, nothing_distinct, distinct_nodes}
+use Rattle.plan_base.proofs.Common.{◌≡◌, ℕ, List, [], ◌∷◌, length, map, filter, refl, subst, arith, Bool, true, false, not, cond, ℤ, Option, Some, None, Ok, Result, filter_map, option_map, nat_le, AllByRecursion, IsDistinct, cons_option, slice_split, onto_first, int_eq, nat_tests, IsDistinct-cons, IsDistinct-head, IsDistinct-tail}
+use Rattle.plan_base.specs.{Caps, Place}
+use Rattle.plain_texts.specs.{lines_of}
+use Rattle.opl_reader.specs.{OplFault, OsmNode, Line, Passed, Bad, NodeLine, WayLine, map_line_of, ids_of, is_placed, IsOsmId, IsPiece, AreObjects, nodes_on, ways_on, placed, placed_on, first_line_fault, faultless, cut_way, objects_on, objects_of, declared.lines.Line.TheVariants.Node, declared.lines.Line.TheVariants.Way, ObjectLists.ObjectLists}
+use Rattle.opl_reader.proofs.{IdLemmas.HasId, IdLemmas.lines_have_ids, PlacedLemmas.node_id, PlacedLemmas.at_place, PlacedLemmas.nothing_distinct, PlacedLemmas.distinct_nodes}
 
 -- the nodes that have a place keep what all visible nodes keep of their ids
 ids_kept : (P : ℤ → Type 0) (nodes : List NodeLine) → AllByRecursion P (map node_id nodes) → AllByRecursion P (ids_of (filter_map placed nodes))

@@ -1,7 +1,7 @@
 -- How a line is cut.
-use Rattle.std.specs.Prelude.{ℕ, ◌+◌, List, position, Bool, ◌==◌, ◌||◌, Option, option_map}
+use Rattle.std.specs.Prelude.{ℕ, List, position, Bool, ◌==◌, ◌||◌, Option, option_map}
 use Rattle.std.specs.List.{slice_split}
-use Rattle.plain_texts.specs.Lines.{around}
+use Rattle.plain_texts.specs.{around}
 
 abbrev pub is_byte : ℕ → ℕ → Bool
 is_byte byte b = b == byte

@@ -2,9 +2,8 @@
 -- Every other byte stands for itself.
 use Rattle.std.specs.Prelude.{ℕ, ◌+◌, ◌-◌, ◌*◌, List, [], ◌∷◌, ◌++◌, length, fold, encode_utf8, ◌&&◌, ◌||◌, nat_le, nat_lt, Option, Some, None, option_and_then, option_map, if◌then◌else◌}
 use Rattle.std.specs.List.{slice_split}
-use Rattle.plain_texts.specs.Digits.{more}
-use Rattle.opl_reader.specs.Optional.{◌>>=◌}
-use Rattle.opl_reader.specs.Cuts.{is_byte}
+use Rattle.plain_texts.specs.{more}
+use Rattle.opl_reader.specs.{Optional.◌>>=◌, Cuts.is_byte}
 
 -- what a byte stands for as a hexadecimal digit, in either case
 abbrev pub either_case_digit_of : ℕ → Option ℕ

@@ -3,19 +3,10 @@ use Rattle.std.specs.Prelude.{◌≡◌, ℕ, ◌+◌, List, [], ◌∷◌, ◌+
 use Rattle.std.specs.List.{list_any}
 use Rattle.std.specs.Map.{lookup}
 use Rattle.std.specs.Ordering.{int_eq}
-use Rattle.plan_base.specs.declared.limits.Caps.{Caps}
+use Rattle.plan_base.specs.{Caps}
 use Rattle.plan_base.specs.declared.limits.Kind.TheVariants as kind
-use Rattle.opl_reader.specs.declared.objects.OsmNode.{OsmNode}
-use Rattle.opl_reader.specs.declared.objects.OplFault.{OplFault}
-use Rattle.opl_reader.specs.declared.objects.OplFault.TheVariants.{BadLine, RepeatedObject, TooMany, OutOfMemory}
-use Rattle.opl_reader.specs.declared.lines.Line.{Line}
-use Rattle.opl_reader.specs.declared.lines.Line.TheVariants.{Passed, Bad, Node, Way}
-use Rattle.opl_reader.specs.declared.lines.NodeLine.{NodeLine}
-use Rattle.opl_reader.specs.declared.lines.WayLine.{WayLine}
-use Rattle.opl_reader.specs.declared.gathered.Gathered.{Gathered}
-use Rattle.opl_reader.specs.ObjectLists.{ObjectLists}
-use Rattle.opl_reader.specs.Lines.{map_line_of}
-use Rattle.opl_reader.specs.Objects.{placed, cut_way}
+use Rattle.opl_reader.specs.{declared.objects.OsmNode.OsmNode, declared.objects.OplFault.OplFault, declared.objects.OplFault.TheVariants.BadLine, declared.objects.OplFault.TheVariants.RepeatedObject, declared.objects.OplFault.TheVariants.TooMany, declared.lines.Line.Line, declared.lines.Line.TheVariants.Passed, declared.lines.Line.TheVariants.Bad, declared.lines.Line.TheVariants.Node, declared.lines.Line.TheVariants.Way, declared.lines.NodeLine.NodeLine, declared.lines.WayLine.WayLine, ObjectLists.ObjectLists, Lines.map_line_of, Objects.placed, Objects.cut_way}
+pub use Rattle.opl_reader.specs.{declared.objects.OplFault.TheVariants.OutOfMemory, declared.gathered.Gathered.Gathered}
 
 -- the number of lines; the visible nodes' ids, and whether each has a place; the nodes that have one; the
 -- visible ways' ids, the ways, and how often they name a node

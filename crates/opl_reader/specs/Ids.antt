@@ -1,6 +1,6 @@
 -- Ids in a map's text: an optional minus and 1 to 18 digits, which may begin with zeros.
 use Rattle.std.specs.Prelude.{ℕ, ◌+◌, ◌*◌, List, [], ◌∷◌, length, fold, ℤ, pos, neg_ℤ, ◌&&◌, ◌==◌, nat_le, nat_lt, Option, Some, None, option_map, if◌then◌else◌}
-use Rattle.plain_texts.specs.Digits.{digit_of, more}
+use Rattle.plain_texts.specs.{digit_of, more}
 
 -- a digit more
 abbrev pub digit_step : ℕ → ℕ → Option ℕ

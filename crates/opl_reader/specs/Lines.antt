@@ -1,19 +1,12 @@
 -- What a line of a map's text says: `n` and `w` begin a node and a way, whose id and fields follow. The fields
 -- `d`, `T`, `x` and `y` of a node and `d`, `T` and `N` of a way are read, others are passed over. (In numbers:
 -- `d` is 100, `n` 110, `N` 78, `T` 84, `w` 119, `x` 120, `y` 121, `#` 35, `r` 114, `c` 99.)
-use Rattle.std.specs.Prelude.{ℕ, List, [], ◌∷◌, ℤ, Bool, true, false, not, ◌&&◌, ◌||◌, ◌==◌, nat_le, bytes_eq, codes, Option, Some, None, option_map, unwrap_or, if◌then◌else◌}
-use Rattle.std.specs.List.{list_all, filter_map}
-use Rattle.plan_base.specs.declared.places.Place.{Place}
-use Rattle.plan_base.specs.PlaceOf.{place_of}
-use Rattle.opl_reader.specs.Optional.{◌>>=◌}
-use Rattle.opl_reader.specs.Cuts.{at_blanks}
-use Rattle.opl_reader.specs.Ids.{osm_id_at}
-use Rattle.opl_reader.specs.References.{coordinate_at, references_at}
-use Rattle.opl_reader.specs.Tags.{tags_at, is_key, amenity_of}
-use Rattle.opl_reader.specs.declared.objects.Element.{Element}
+use Rattle.std.specs.Prelude.{ℕ, List, [], ◌∷◌, ℤ, Bool, true, false, not, ◌&&◌, ◌||◌, ◌==◌, nat_le, bytes_eq, codes, Option, Some, None, option_map, unwrap_or, if◌then◌else◌, filter_map}
+use Rattle.std.specs.List.{list_all}
+use Rattle.plan_base.specs.{Place, place_of}
+use Rattle.opl_reader.specs.{Cuts.at_blanks, Ids.osm_id_at, References.coordinate_at, References.references_at, Tags.tags_at, Tags.is_key, Tags.amenity_of, declared.objects.Element.Element, Optional.◌>>=◌, declared.lines.Line.TheVariants.Node, declared.lines.Line.TheVariants.Way}
 use Rattle.opl_reader.specs.declared.objects.Element.TheVariants as element
-use Rattle.opl_reader.specs.declared.lines.Line.{Line}
-use Rattle.opl_reader.specs.declared.lines.Line.TheVariants.{Passed, Bad, Node, Way}
+pub use Rattle.opl_reader.specs.{declared.lines.Line.Line, declared.lines.Line.TheVariants.Passed, declared.lines.Line.TheVariants.Bad}
 
 -- a letter of ASCII
 abbrev pub is_letter : ℕ → Bool

@@ -2,8 +2,7 @@
 use Rattle.std.specs.Prelude.{◌≡◌, ◌^◌, ◌<◌, ◌≤◌, List, map, length, ℤ, unsigned_abs, Bool, true}
 use Rattle.std.specs.List.{AllByRecursion, IsDistinct, list_any}
 use Rattle.std.specs.Ordering.{int_eq}
-use Rattle.opl_reader.specs.declared.objects.OsmNode.{OsmNode}
-use Rattle.opl_reader.specs.declared.objects.OsmWay.{OsmWay}
+pub use Rattle.opl_reader.specs.{declared.objects.OsmNode.OsmNode, declared.objects.OsmWay.OsmWay}
 
 -- the nodes that have a place, and the ways
 pub record ObjectLists : Type 0 where

@@ -3,19 +3,11 @@ use Rattle.std.specs.Prelude.{ℕ, ◌+◌, List, [], ◌∷◌, ◌++◌, lengt
 use Rattle.std.specs.Option.{option_or}
 use Rattle.std.specs.List.{list_any, slice_split}
 use Rattle.std.specs.Ordering.{int_eq}
-use Rattle.plan_base.specs.declared.limits.Caps.{Caps}
+use Rattle.plan_base.specs.{Caps}
 use Rattle.plan_base.specs.declared.limits.Kind.TheVariants as kind
-use Rattle.plain_texts.specs.Lines.{pieces, lines_of}
-use Rattle.opl_reader.specs.declared.objects.OsmNode.{OsmNode}
-use Rattle.opl_reader.specs.declared.objects.OsmWay.{OsmWay}
-use Rattle.opl_reader.specs.declared.objects.OplFault.{OplFault}
-use Rattle.opl_reader.specs.declared.objects.OplFault.TheVariants.{BadLine, RepeatedObject, TooMany}
-use Rattle.opl_reader.specs.declared.lines.Line.{Line}
-use Rattle.opl_reader.specs.declared.lines.Line.TheVariants.{Passed, Bad, Node, Way}
-use Rattle.opl_reader.specs.declared.lines.NodeLine.{NodeLine}
-use Rattle.opl_reader.specs.declared.lines.WayLine.{WayLine}
-use Rattle.opl_reader.specs.ObjectLists.{ObjectLists, is_placed}
-use Rattle.opl_reader.specs.Lines.{map_line_of}
+use Rattle.plain_texts.specs.{pieces, lines_of}
+use Rattle.opl_reader.specs.{declared.objects.OsmNode.OsmNode, declared.objects.OsmWay.OsmWay, declared.lines.Line.Line, declared.lines.Line.TheVariants.Passed, declared.lines.Line.TheVariants.Bad, declared.lines.Line.TheVariants.Node, declared.lines.Line.TheVariants.Way, ObjectLists.ObjectLists, ObjectLists.is_placed, Lines.map_line_of}
+pub use Rattle.opl_reader.specs.{declared.objects.OplFault.OplFault, declared.objects.OplFault.TheVariants.BadLine, declared.objects.OplFault.TheVariants.RepeatedObject, declared.objects.OplFault.TheVariants.TooMany, declared.lines.NodeLine.NodeLine, declared.lines.WayLine.WayLine}
 
 -- the visible node on a line
 abbrev pub node_on : Line → Option NodeLine

@@ -1,12 +1,9 @@
 -- What a reader of a map's text knows, and what bytes do to it.
 use Rattle.std.specs.Prelude.{ℕ, List, [], ◌∷◌, ◌++◌, Option, Result, Ok, Err}
-use Rattle.plan_base.specs.declared.limits.Caps.{Caps}
-use Rattle.plain_texts.specs.Lines.{pieces}
-use Rattle.opl_reader.specs.declared.objects.OplFault.{OplFault}
-use Rattle.opl_reader.specs.declared.reader.Reader.{Reader}
-use Rattle.opl_reader.specs.ObjectLists.{ObjectLists}
-use Rattle.opl_reader.specs.Lines.{map_line_of}
-use Rattle.opl_reader.specs.Gathered.{GatheredLists, lists_of, nothing_gathered, with_line, last_line, objects_from}
+use Rattle.plan_base.specs.{Caps}
+use Rattle.plain_texts.specs.{pieces}
+use Rattle.opl_reader.specs.{declared.objects.OplFault.OplFault, ObjectLists.ObjectLists, Lines.map_line_of, Gathered.GatheredLists, Gathered.lists_of, Gathered.nothing_gathered, Gathered.with_line, Gathered.last_line, Gathered.objects_from}
+pub use Rattle.opl_reader.specs.declared.reader.Reader.{Reader}
 
 -- the limits, what the lines that have ended gave, and the line that has not
 pub record ReaderState : Type 0 where

@@ -1,10 +1,7 @@
 -- What a reader answers, told by the whole text that it took.
 use Rattle.std.specs.Prelude.{◌≡◌, ℕ, List, ◌++◌, None, Some, Ok, Err}
-use Rattle.plan_base.specs.declared.limits.Caps.{Caps}
-use Rattle.opl_reader.specs.declared.objects.OplFault.{OplFault}
-use Rattle.opl_reader.specs.declared.objects.OplFault.TheVariants.{BadLine, RepeatedObject, TooMany, OutOfMemory}
-use Rattle.opl_reader.specs.Objects.{ended_fault, objects_of}
-use Rattle.opl_reader.specs.Readers.{OplState, fresh, with_bytes}
+use Rattle.plan_base.specs.{Caps}
+use Rattle.opl_reader.specs.{declared.objects.OplFault.OplFault, declared.objects.OplFault.TheVariants.BadLine, declared.objects.OplFault.TheVariants.RepeatedObject, declared.objects.OplFault.TheVariants.TooMany, declared.objects.OplFault.TheVariants.OutOfMemory, Objects.ended_fault, Objects.objects_of, Readers.OplState, Readers.fresh, Readers.with_bytes}
 
 -- the reader took these bytes within these limits, and found no fault
 pub record HasTaken (reader : OplState) (caps : Caps) (bytes : List ℕ) : Type 0 where

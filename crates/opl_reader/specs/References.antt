@@ -1,9 +1,7 @@
 -- Coordinates, and references of ways to nodes.
 use Rattle.std.specs.Prelude.{ℕ, List, [], ◌∷◌, ℤ, Bool, false, ◌&&◌, ◌==◌, is_some, Option, Some, None, option_map, if◌then◌else◌}
-use Rattle.geo_length.specs.Degrees.{degrees_of}
-use Rattle.opl_reader.specs.Optional.{each}
-use Rattle.opl_reader.specs.Cuts.{cut_of, at_commas}
-use Rattle.opl_reader.specs.Ids.{osm_id_at}
+use Rattle.geo_length.specs.{degrees_of}
+use Rattle.opl_reader.specs.{Optional.each, Cuts.cut_of, Cuts.at_commas, Ids.osm_id_at}
 
 -- Degrees of at most this size, in units of 10^-7 degree; or nothing, which is no coordinate.
 abbrev pub coordinate_at : ℕ → List ℕ → Option (Option ℤ)

@@ -1,13 +1,8 @@
 -- Tags: a key and a value each.
 use Rattle.std.specs.Prelude.{ℕ, List, [], ◌∷◌, ◌++◌, fold, Bool, not, ◌&&◌, is_some, bytes_eq, codes, Option, Some, None, option_map, if◌then◌else◌}
 use Rattle.std.specs.List.{list_any}
-use Rattle.opl_reader.specs.Optional.{◌>>=◌, each}
-use Rattle.opl_reader.specs.Cuts.{cut_of, at_commas}
-use Rattle.opl_reader.specs.Escapes.{unescaped}
-use Rattle.opl_reader.specs.declared.objects.Element.{Element}
-use Rattle.opl_reader.specs.declared.objects.Element.TheVariants.{Node, Way}
-use Rattle.opl_reader.specs.declared.objects.Amenity.{Amenity}
-use Rattle.opl_reader.specs.declared.objects.Amenity.TheVariants.{Nothing, Parking, BicycleParking, BicycleRental}
+use Rattle.opl_reader.specs.{Optional.each, Optional.◌>>=◌, Cuts.cut_of, Cuts.at_commas, Escapes.unescaped}
+pub use Rattle.opl_reader.specs.{declared.objects.Element.Element, declared.objects.Element.TheVariants.Node, declared.objects.Element.TheVariants.Way, declared.objects.Amenity.Amenity, declared.objects.Amenity.TheVariants.Nothing, declared.objects.Amenity.TheVariants.Parking, declared.objects.Amenity.TheVariants.BicycleParking, declared.objects.Amenity.TheVariants.BicycleRental}
 
 -- the keys of ways that a road profile reads
 abbrev pub way_keys : List (List ℕ)

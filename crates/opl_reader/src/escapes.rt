@@ -1,6 +1,6 @@
 //! Keys and values, and the escapes in them.
 
-ghost use Rattle.std.specs.Prelude.{◌≡◌, ◌^◌, ◌<◌, ◌++◌, encode_utf8, IfOk, IfSome, OnOk};
+ghost use Rattle.std.specs.Prelude.{◌≡◌, ◌<◌, ◌++◌, encode_utf8, IfOk, IfSome, OnOk};
 ghost use Rattle.opl_reader.specs.Escapes.{character_at, either_case_digit_of, hexadecimal_scalar_at, scalar_of, unescaped};
 
 use crate::cuts::cut;

@@ -1,6 +1,6 @@
 //! What the lines of a map's text give, line by line.
 
-ghost use Rattle.std.specs.Prelude.{◌≡◌, ◌+◌, ◌++◌, [], ◌∷◌, not, length, is_some, Ok, IfOk, OnOk, IfErr, IsTrue, option_to_list};
+ghost use Rattle.std.specs.Prelude.{◌≡◌, ◌+◌, ◌++◌, [], ◌∷◌, not, is_some, Ok, IfOk, OnOk, IfErr, IsTrue, option_to_list};
 ghost use Rattle.std.specs.List.{list_any};
 ghost use Rattle.std.specs.Map.{lookup};
 ghost use Rattle.std.specs.Ordering.{int_eq};

@@ -1,6 +1,6 @@
 //! Ids in a map's text.
 
-ghost use Rattle.std.specs.Prelude.{◌≡◌, ◌^◌, ◌<◌, ◌≤◌, unsigned_abs, option_map, length, IfSome};
+ghost use Rattle.std.specs.Prelude.{◌≡◌, ◌^◌, ◌<◌, IfSome};
 ghost use Rattle.plain_texts.specs.Digits.{digit_of};
 ghost use Rattle.opl_reader.specs.Ids.{osm_id_at, up_to_eighteen_digits_at};
 ghost use Rattle.opl_reader.specs.ObjectLists.{IsOsmId};

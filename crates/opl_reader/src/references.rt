@@ -1,6 +1,6 @@
 //! Coordinates, and references of ways to nodes.
 
-ghost use Rattle.std.specs.Prelude.{◌≡◌, ◌≤◌, map, option_map, IfOk};
+ghost use Rattle.std.specs.Prelude.{◌≡◌, ◌≤◌, map, IfOk};
 ghost use Rattle.opl_reader.specs.Optional.{each};
 ghost use Rattle.opl_reader.specs.Cuts.{cut_of};
 ghost use Rattle.opl_reader.specs.References as spec;

@@ -1,12 +1,9 @@
 -- Walks of moves, as walks over numbered arcs, and conversely.
-use Rattle.std.proofs.Common.{◌≡◌, ℕ, Bool, List, [], ◌∷◌, ◌++◌, None, refl, sym, ap, subst, ◌∙◌, arith}
-use Rattle.std.specs.Prelude.{Option, option_to_list}
-use Rattle.search_laws.specs.GraphLaws.{GraphMeaning}
-use Rattle.search_laws.specs.Walks.{WalkStep, wait, arc, IsWalk, word_from}
+use Rattle.plan_base.proofs.Common.{◌≡◌, ℕ, Bool, List, [], ◌∷◌, ◌++◌, None, refl, sym, ap, subst, ◌∙◌, arith, Option, option_to_list}
+use Rattle.search_laws.specs.{GraphMeaning, WalkStep, wait, arc, IsWalk, word_from}
 use Rattle.mode_network.specs.NetworkLists.{NetworkLists}
-use Rattle.hierarchy.specs.Lists.{HierarchyLists}
-use Rattle.phase_graph.specs.Moves.{PhaseMove, rest, rise, fall, cross, stand, IsPhaseMove, AreMoves}
-use Rattle.phase_graph.specs.Arcs.{phase_node, IsResting, IsPhaseGraph, HasWalk, HasMoves, PhaseGraphsHaveMoves, PhaseGraphsHaveNoOthers}
+use Rattle.hierarchy.specs.{HierarchyLists}
+use Rattle.phase_graph.specs.{PhaseMove, rest, rise, fall, cross, stand, IsPhaseMove, AreMoves, phase_node, IsResting, IsPhaseGraph, HasWalk, HasMoves, PhaseGraphsHaveMoves, PhaseGraphsHaveNoOthers}
 
 module _ (n : NetworkLists) (h : HierarchyLists) (targets : List ℕ) (g : GraphMeaning) (is : IsPhaseGraph n h targets g) where
   -- a move but a rest is an arc, and then a wait

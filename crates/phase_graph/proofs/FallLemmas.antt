@@ -1,31 +1,10 @@
 -- The falls by where they lead, and how they are put in chains.
-use Rattle.std.proofs.Common.{◌≡◌, ℕ, suc, zero, ◌+◌, ◌-◌, ◌<◌, ◌≤◌, ◌⊎◌, inl, inr, ◌∙◌, nat_eq, ◌&&◌, Bool, true, false, cond, List, [], ◌∷◌, ◌++◌, length, take, drop, set, get_or, add-one, append_assoc, append-nil, le_refl, refl, ap, arith, sym, subst, Less, Greater}
-use Rattle.std.specs.Prelude.{All, AllPairs, Contains, map, filter}
-use Rattle.std.specs.Ordering.{ordering_reverse}
-use Rattle.std.specs.List.{range_with_len}
-use Rattle.std.proofs.lemmas.Bool.{cases_lt, eq-eqb, eqb-true, eqb-false, lt-ltb, ltb-true}
-use Rattle.std.proofs.lemmas.Cmp.{nat_cmp_total, tied_itself}
-use Rattle.std.proofs.lemmas.List.{drop_more, get_or_append_left, get_or_default, get_or_push, get_or-set_other, get_or-set_same, length_push, take-append-drop, take_all, take_more}
-use Rattle.std.proofs.lemmas.List.Elements.{All-append, All-contains, All-filter, All-head, All-map, All-nil, All-tail, Contains-append_left, Contains-append_right, Contains-push_cases, filter-append, filter_passes}
-use Rattle.std.proofs.lemmas.List.FromFn.{get_or-range_with_len, length-range_with_len}
-use Rattle.std.proofs.lemmas.List.Kept.{AllPairs-cons, AllPairs-filter}
-use Rattle.std.proofs.lemmas.Grind.{flat_map-append}
-use Rattle.std.proofs.lemmas.Option.{slice_get-get_or}
-use Rattle.search_laws.specs.declared.graph.Way.{Way}
+use Rattle.plan_base.proofs.Common.{◌≡◌, ℕ, suc, zero, ◌+◌, ◌-◌, ◌<◌, ◌≤◌, ◌⊎◌, inl, inr, ◌∙◌, nat_eq, ◌&&◌, Bool, true, false, cond, List, [], ◌∷◌, ◌++◌, length, take, drop, set, get_or, add-one, append_assoc, append-nil, le_refl, refl, ap, arith, sym, subst, All, AllPairs, Contains, map, filter, ordering_reverse, range_with_len, cases_lt, eq-eqb, eqb-true, eqb-false, lt-ltb, ltb-true, nat_cmp_total, tied_itself, drop_more, get_or_append_left, get_or_default, get_or_push, get_or-set_other, get_or-set_same, length_push, take-append-drop, take_all, take_more, All-append, All-contains, All-filter, All-head, All-map, All-nil, All-tail, Contains-append_left, Contains-append_right, Contains-push_cases, filter-append, filter_passes, get_or-range_with_len, length-range_with_len, AllPairs-cons, AllPairs-filter, flat_map-append, slice_get-get_or, Less, Greater}
+use Rattle.search_laws.specs.{Way}
 use Rattle.mode_network.proofs.RuleLemmas.{both}
-use Rattle.hierarchy.specs.Lists.{HierarchyLists, IsAbove, is_above}
-use Rattle.hierarchy.specs.Lookups.{AreFrom, ArePlaces, FallsTo, entry_at, no_entry}
-use Rattle.hierarchy.specs.Rules.{IsHierarchy, entry_cmp}
-use Rattle.hierarchy.proofs.FallLemmas.{into_node}
-use Rattle.hierarchy.proofs.LookupLemmas.{entry_total, from_rises}
-use Rattle.hierarchy.proofs.OffsetLemmas.{are_from}
-use Rattle.hierarchy.proofs.PlaceLemmas.{range_ascends, range_within}
-use Rattle.phase_graph.specs.declared.falls.ChainedFall.{ChainedFall}
-use Rattle.phase_graph.specs.declared.falls.Fall.{Fall}
-use Rattle.phase_graph.specs.Marks.{has_mark, is_fall}
-use Rattle.phase_graph.specs.PhaseArcs.{entries_at, first_entry}
-use Rattle.phase_graph.specs.inside.Falls.{AreChains, HasFalls, IsChain, IsFallAt, IsFallFrom, chained_at, fall_at, falls_from, places_from, places_into, places_into_all}
-use Rattle.phase_graph.specs.inside.Marking.{AreMarked, HasNoFalls}
+use Rattle.hierarchy.specs.{HierarchyLists, IsAbove, is_above, AreFrom, ArePlaces, FallsTo, entry_at, no_entry, IsHierarchy, entry_cmp}
+use Rattle.hierarchy.proofs.{FallLemmas.into_node, LookupLemmas.entry_total, LookupLemmas.from_rises, OffsetLemmas.are_from, PlaceLemmas.range_ascends, PlaceLemmas.range_within}
+use Rattle.phase_graph.specs.{declared.falls.ChainedFall.ChainedFall, declared.falls.Fall.Fall, has_mark, is_fall, entries_at, first_entry, inside.AreChains, inside.HasFalls, inside.IsChain, inside.IsFallAt, inside.IsFallFrom, inside.chained_at, inside.fall_at, inside.falls_from, inside.places_from, inside.places_into, inside.places_into_all, inside.AreMarked, inside.HasNoFalls}
 
 -- ---- the falls to one marked node after the other
 

@@ -1,34 +1,14 @@
 -- The arcs of the phase graph are its moves, and keep the laws of graphs.
-use Rattle.std.proofs.Common.{◌≡◌, ℕ, ◌+◌, ◌-◌, ◌*◌, ◌/◌, ◌%◌, ◌^◌, ◌<◌, ◌≤◌, cond, nat_lt, nat_eq, Bool, true, false, List, length, get_or, Option, Some, None, refl, ap, arith, sym}
-use Rattle.std.specs.Prelude.{IfSome}
-use Rattle.std.proofs.lemmas.Bool.{eqb-true, eqb-false, ltb-true, ltb-false}
-use Rattle.std.proofs.lemmas.List.{get_or_default}
-use Rattle.std.proofs.lemmas.Option.{slice_get-get_or}
-use Rattle.search_laws.specs.Letters.{IsLetter}
-use Rattle.search_laws.specs.GraphLaws.{GraphMeaning, HasArc, IsLawfulGraph}
-use Rattle.timetable_arcs.specs.Patterns.{TableLists}
-use Rattle.timetable_arcs.specs.Table.{IsTable}
-use Rattle.plan_base.specs.Modes.{number_of_mode}
-use Rattle.mode_network.specs.NetworkLists.{NetworkLists, nodes_of, letter_at}
-use Rattle.mode_network.specs.Rules.{IsNetwork}
-use Rattle.mode_network.specs.Timetables.{IsTimetableOf}
-use Rattle.mode_network.proofs.RuleLemmas.{letter_of, some_is, letter_is_road, nodes_hold_roads}
-use Rattle.hierarchy.specs.Lists.{HierarchyLists}
-use Rattle.hierarchy.specs.Rules.{IsHierarchy}
-use Rattle.hierarchy.specs.Indexes.{AreBelow}
-use Rattle.hierarchy.specs.Rises.{is_rise}
-use Rattle.hierarchy.specs.Soundness.{IsSound, FitsLayer}
-use Rattle.hierarchy.specs.Lookups.{from_of, entry_at, no_entry}
-use Rattle.hierarchy.proofs.LookupLemmas.{from_rises}
-use Rattle.hierarchy.proofs.RiseLemmas.{are_rise_places}
-use Rattle.hierarchy.proofs.OffsetLemmas.{count_most, key_in_range}
-use Rattle.plain_graph.specs.PlainArcs.{plain_meaning, arcs_at}
-use Rattle.plain_graph.specs.Lawful.{plain_lawful}
-use Rattle.phase_graph.specs.declared.phases.PhaseArc.{PhaseArc}
-use Rattle.phase_graph.specs.declared.phases.PhaseArc.TheVariants.{Up, Down, Other}
-use Rattle.phase_graph.specs.Arcs.{phase_node}
-use Rattle.phase_graph.specs.Marks.{is_fall}
-use Rattle.phase_graph.specs.PhaseArcs.{phase_meaning, phase_arc, phase_arcs_at, arc_of, phase_arrival, rises_at, first_entry, entries_at, others_at, first_other, node_of, is_down}
+use Rattle.plan_base.proofs.Common.{◌≡◌, ℕ, ◌+◌, ◌-◌, ◌*◌, ◌/◌, ◌%◌, ◌^◌, ◌<◌, ◌≤◌, cond, nat_lt, nat_eq, Bool, true, false, List, length, get_or, Option, Some, None, refl, ap, arith, sym, IfSome, eqb-true, eqb-false, ltb-true, ltb-false, get_or_default, slice_get-get_or}
+use Rattle.search_laws.specs.{IsLetter, GraphMeaning, HasArc, IsLawfulGraph}
+use Rattle.timetable_arcs.specs.{TableLists, IsTable}
+use Rattle.plan_base.specs.{number_of_mode}
+use Rattle.mode_network.specs.{NetworkLists.NetworkLists, nodes_of, letter_at, IsNetwork, IsTimetableOf}
+use Rattle.mode_network.proofs.{RuleLemmas.letter_of, RuleLemmas.some_is, RuleLemmas.letter_is_road, RuleLemmas.nodes_hold_roads, KeyLemmas.count_most, KeyLemmas.key_in_range}
+use Rattle.hierarchy.specs.{HierarchyLists, IsHierarchy, AreBelow, is_rise, IsSound, FitsLayer, from_of, entry_at, no_entry}
+use Rattle.hierarchy.proofs.{LookupLemmas.from_rises, RiseLemmas.are_rise_places}
+use Rattle.plain_graph.specs.{plain_meaning, arcs_at, plain_lawful}
+use Rattle.phase_graph.specs.{PhaseArc, Up, Down, Other, phase_node, is_fall, phase_meaning, phase_arc, phase_arcs_at, arc_of, phase_arrival, rises_at, first_entry, entries_at, others_at, first_other, node_of, is_down}
 
 -- ---- the numbers of nodes
 

@@ -1,54 +1,16 @@
 -- Each arc of the phase graph that arrives is a move, and each move but a rest has an arc.
-use Rattle.std.proofs.Common.{◌≡◌, ℕ, ◌+◌, ◌-◌, ◌*◌, ◌<◌, ◌≤◌, inl, inr, ◌∙◌, ◌&&◌, ◌||◌, cond, nat_lt, Bool, true, false, List, length, get_or, Option, Some, None, refl, ap, ap₂, arith, sym, subst}
-use Rattle.std.specs.Prelude.{option_map, is_some}
-use Rattle.std.proofs.lemmas.Bool.{cases_lt, eqb-true, ltb-true, lt-ltb, le-ltb, eq-eqb}
-use Rattle.std.proofs.lemmas.List.{get_or_default}
-use Rattle.std.proofs.lemmas.Option.{slice_get-get_or}
-use Rattle.search_laws.specs.GraphLaws.{GraphMeaning, HasArc}
-use Rattle.search_laws.specs.declared.graph.GraphArc.{GraphArc}
-use Rattle.timetable_arcs.specs.declared.trips.Instance.{Instance}
-use Rattle.timetable_arcs.specs.declared.rides.Ride.{Ride as RideCalls}
-use Rattle.timetable_arcs.specs.Patterns.{TableLists}
-use Rattle.timetable_arcs.specs.Table.{IsTable}
-use Rattle.mode_network.specs.declared.nodes.Arc.{Arc}
-use Rattle.mode_network.specs.declared.steps.Step.{Step}
-use Rattle.mode_network.specs.declared.steps.Step.TheVariants.{Wait, Road as TakeRoad, Link as TakeLink, Stand as StandStill, Ride as TakeRide}
-use Rattle.plan_base.specs.Modes.{number_of_mode}
-use Rattle.mode_network.specs.NetworkLists.{NetworkLists, nodes_of, letter_at}
-use Rattle.mode_network.specs.Indexes.{range_from}
-use Rattle.mode_network.specs.Rules.{IsNetwork}
-use Rattle.mode_network.specs.Timetables.{IsTimetableOf}
-use Rattle.mode_network.specs.Journeys.{IsStep}
-use Rattle.mode_network.proofs.RuleLemmas.{letter_of, some_is, both}
-use Rattle.hierarchy.specs.declared.entry.Entry.{Entry}
-use Rattle.hierarchy.specs.Hops.{Hop}
-use Rattle.hierarchy.specs.Lists.{HierarchyLists, height_in, is_above, IsAbove, IsCore}
-use Rattle.hierarchy.specs.Rules.{IsHierarchy}
-use Rattle.hierarchy.specs.Rises.{is_core, leads_up}
-use Rattle.hierarchy.specs.Soundness.{HasEntry, IsSound}
-use Rattle.hierarchy.specs.Lookups.{from_of, entry_at, no_entry}
-use Rattle.hierarchy.specs.Indexes.{AreEndsBelow}
-use Rattle.hierarchy.proofs.LookupLemmas.{from_rises}
-use Rattle.hierarchy.proofs.RiseLemmas.{are_rise_places}
-use Rattle.hierarchy.proofs.SoundLemmas.{fits}
-use Rattle.hierarchy.proofs.OffsetLemmas.{in_range_of_key}
-use Rattle.plain_graph.specs.declared.plain.PlainArc.{PlainArc}
-use Rattle.plain_graph.specs.declared.plain.PlainArc.TheVariants.{Road, Link, Stand, Ride}
-use Rattle.plain_graph.specs.PlainArcs.{plain_meaning, plain_arc, count_from, stands_at, run_at, arrival, graph_arc, no_arc}
-use Rattle.plain_graph.specs.inside.OutArcs.{IsOut, IsArcFrom, out_of, no_mode}
-use Rattle.plain_graph.specs.Simulation.{IsNoWait}
-use Rattle.plain_graph.proofs.PlaceTies.{stand_at}
-use Rattle.plain_graph.proofs.Same.{step_at, steps_are_arcs}
-use Rattle.phase_graph.specs.declared.phases.PhaseArc.{PhaseArc}
-use Rattle.phase_graph.specs.declared.phases.PhaseArc.TheVariants.{Up, Down, Other}
-use Rattle.phase_graph.specs.Moves.{PhaseMove, rest, rise, fall, cross, stand, IsPhaseMove, IsRise, IsCrossing, IsMarked}
-use Rattle.phase_graph.specs.Arcs.{phase_node, IsResting, IsArcBy, IsArcOfMove, IsPhaseGraph}
-use Rattle.phase_graph.specs.Marks.{AreMarksFor, has_mark, is_fall}
-use Rattle.phase_graph.specs.PhaseArcs.{phase_meaning, phase_arc, phase_arcs_at, arc_of, phase_arrival, rises_at, first_entry, entries_at, others_at, first_other}
-use Rattle.phase_graph.proofs.GraphLemmas.{half, phase_of, in_nodes, road_inside, IsArcAt, arc_is, taken, place_fits}
-use Rattle.phase_graph.proofs.MarkLemmas.{marked_by_fall}
-use Rattle.phase_graph.proofs.PlaceLemmas.{up_is, down_is, other_is}
-use Rattle.phase_graph.proofs.JourneyLemmas.{link_leaves_core, stop_is_core}
+use Rattle.plan_base.proofs.Common.{◌≡◌, ℕ, ◌+◌, ◌-◌, ◌*◌, ◌<◌, ◌≤◌, inl, inr, ◌∙◌, ◌&&◌, ◌||◌, cond, nat_lt, Bool, true, false, List, length, get_or, Option, Some, None, refl, ap, ap₂, arith, sym, subst, option_map, is_some, cases_lt, eqb-true, ltb-true, lt-ltb, le-ltb, eq-eqb, get_or_default, slice_get-get_or}
+use Rattle.search_laws.specs.{GraphMeaning, HasArc, GraphArc}
+use Rattle.timetable_arcs.specs.{Instance, Ride as RideCalls, TableLists, IsTable}
+use Rattle.mode_network.specs.{Arc, Step, Wait, Link as TakeLink, Stand as StandStill, Ride as TakeRide, nodes_of, letter_at, range_from, IsNetwork, IsTimetableOf, IsStep, declared.steps.Step.TheVariants.Road as TakeRoad, NetworkLists.NetworkLists}
+use Rattle.plan_base.specs.{number_of_mode}
+use Rattle.mode_network.proofs.{RuleLemmas.letter_of, RuleLemmas.some_is, RuleLemmas.both, KeyLemmas.in_range_of_key}
+use Rattle.hierarchy.specs.{Entry, Hop, HierarchyLists, height_in, is_above, IsAbove, IsCore, IsHierarchy, is_core, leads_up, HasEntry, IsSound, from_of, entry_at, no_entry, AreEndsBelow}
+use Rattle.hierarchy.proofs.{LookupLemmas.from_rises, RiseLemmas.are_rise_places, SoundLemmas.fits}
+use Rattle.plain_graph.specs.{PlainArc, Road, Link, Stand, Ride, plain_meaning, plain_arc, count_from, stands_at, run_at, arrival, graph_arc, no_arc, IsNoWait, inside.IsOut, inside.IsArcFrom, inside.out_of, inside.no_mode}
+use Rattle.plain_graph.proofs.{PlaceTies.stand_at, Same.step_at, Same.steps_are_arcs}
+use Rattle.phase_graph.specs.{PhaseArc, Up, Down, Other, PhaseMove, rest, rise, fall, cross, stand, IsPhaseMove, IsRise, IsCrossing, IsMarked, phase_node, IsResting, IsArcBy, IsArcOfMove, IsPhaseGraph, AreMarksFor, has_mark, is_fall, phase_meaning, phase_arc, phase_arcs_at, arc_of, phase_arrival, rises_at, first_entry, entries_at, others_at, first_other}
+use Rattle.phase_graph.proofs.{GraphLemmas.half, GraphLemmas.phase_of, GraphLemmas.in_nodes, GraphLemmas.road_inside, GraphLemmas.IsArcAt, GraphLemmas.arc_is, GraphLemmas.taken, GraphLemmas.place_fits, MarkLemmas.marked_by_fall, PlaceLemmas.up_is, PlaceLemmas.down_is, PlaceLemmas.other_is, JourneyLemmas.link_leaves_core, JourneyLemmas.stop_is_core}
 
 -- ---- the arcs of the plain graph behind the road arcs
 

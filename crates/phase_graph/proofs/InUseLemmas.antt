@@ -1,27 +1,13 @@
 -- The laws of the graph in use, without a hierarchy and with one.
-use Rattle.std.proofs.Common.{◌≡◌, ℕ, zero, suc, ◌<◌, ◌⊎◌, inl, inr, get_or, Bool, false, true, cond, List, [], ◌∷◌, map, length, Option, Some, None, refl, sym, ◌∙◌, ap, subst, arith}
-use Rattle.std.specs.Prelude.{Contains}
-use Rattle.std.specs.List.{flat_map}
+use Rattle.plan_base.proofs.Common.{◌≡◌, ℕ, zero, suc, ◌<◌, ◌⊎◌, inl, inr, get_or, Bool, false, true, cond, List, [], ◌∷◌, map, length, Option, Some, None, refl, sym, ◌∙◌, ap, subst, arith, Contains, flat_map, lt-ltb, length-map, get_or_default, Contains-append_left, Contains-append_right, Contains-append_cases}
 use Rattle.std.proofs.Math.ListN.{get_or-map}
-use Rattle.std.proofs.lemmas.Bool.{lt-ltb}
-use Rattle.std.proofs.lemmas.List.{length-map, get_or_default}
-use Rattle.std.proofs.lemmas.List.Elements.{Contains-append_left, Contains-append_right, Contains-append_cases}
-use Rattle.search_laws.specs.Collapse.{collapse}
-use Rattle.search_laws.specs.GraphLaws.{GraphMeaning, HasArc, IsLawfulGraph}
-use Rattle.mode_network.specs.NetworkLists.{NetworkLists}
-use Rattle.mode_network.specs.Rules.{IsNetwork}
-use Rattle.mode_network.specs.declared.steps.Step.{Step}
-use Rattle.mode_network.specs.Journeys.{AreSteps}
-use Rattle.hierarchy.specs.Lists.{HierarchyLists, is_contracted, IsContracted}
-use Rattle.plain_graph.specs.PlainArcs.{plain_meaning}
-use Rattle.plain_graph.specs.Lawful.{plain_lawful}
+use Rattle.search_laws.specs.{collapse, GraphMeaning, HasArc, IsLawfulGraph}
+use Rattle.mode_network.specs.{NetworkLists.NetworkLists, IsNetwork, Step, AreSteps}
+use Rattle.hierarchy.specs.{HierarchyLists, is_contracted, IsContracted}
+use Rattle.plain_graph.specs.{plain_meaning, plain_lawful}
 use Rattle.plain_graph.proofs.Same.{journeys_are_walks, arcs_are_steps, steps_are_arcs}
-use Rattle.phase_graph.specs.Arcs.{phase_node, IsArcBy, IsPhaseGraph}
-use Rattle.phase_graph.specs.PhaseArcs.{phase_meaning, node_of, is_down}
-use Rattle.phase_graph.specs.InUse.{IsInUse, IsSoundIfGiven, IsPlain, starts_in, target_numbers, ends_in, node_under, HasWalkInUse, JourneysHaveWalksInUse, GraphsInUseAreLawful, Covers, GraphsInUseAreAlike}
-use Rattle.phase_graph.proofs.GraphLemmas.{lawful, whole, half}
-use Rattle.phase_graph.proofs.GraphMoves.{is_phase_graph}
-use Rattle.phase_graph.proofs.WalkedLemmas.{journeys_have_walks}
+use Rattle.phase_graph.specs.{phase_node, IsArcBy, IsPhaseGraph, phase_meaning, node_of, is_down, IsInUse, IsSoundIfGiven, IsPlain, starts_in, target_numbers, ends_in, node_under, HasWalkInUse, JourneysHaveWalksInUse, GraphsInUseAreLawful, Covers, GraphsInUseAreAlike}
+use Rattle.phase_graph.proofs.{GraphLemmas.lawful, GraphLemmas.whole, GraphLemmas.half, GraphMoves.is_phase_graph, WalkedLemmas.journeys_have_walks}
 
 -- ---- starts and ends
 

@@ -1,29 +1,14 @@
 -- Each journey to a target has a phase walk. What a journey begins with is a road part, over entries; a link or a ride closes what
 -- follows it.
-use Rattle.std.proofs.Common.{◌≡◌, ℕ, ◌+◌, ◌<◌, ◌≤◌, ◌⊎◌, inl, inr, false, List, [], ◌∷◌, ◌++◌, Some, None, length, refl, sym, ap, subst, ◌∙◌, append-nil, arith}
-use Rattle.std.specs.Prelude.{Option, Contains, option_to_list, option_and_then, option_map}
-use Rattle.std.proofs.lemmas.Bool.{cases_lt}
-use Rattle.std.proofs.lemmas.Option.{same_Some, none-some, slice_get_past}
-use Rattle.std.proofs.lemmas.List.Elements.{All-contains}
-use Rattle.search_laws.specs.Collapse.{collapse}
-use Rattle.mode_network.specs.declared.nodes.Arc.{Arc}
-use Rattle.mode_network.specs.declared.nodes.Node.{Node}
-use Rattle.mode_network.specs.declared.steps.Step.{Step}
-use Rattle.mode_network.specs.declared.steps.Step.TheVariants.{Wait, Road, Link, Stand, Ride}
-use Rattle.plan_base.specs.Modes.{number_of_mode}
-use Rattle.mode_network.specs.NetworkLists.{NetworkLists, letter_at, mode_of, stop_node}
-use Rattle.mode_network.specs.Rules.{IsNetwork}
-use Rattle.mode_network.specs.Journeys.{Leads, IsStep, AreSteps}
+use Rattle.plan_base.proofs.Common.{◌≡◌, ℕ, ◌+◌, ◌<◌, ◌≤◌, ◌⊎◌, inl, inr, false, List, [], ◌∷◌, ◌++◌, Some, None, length, refl, sym, ap, subst, ◌∙◌, append-nil, arith, Option, Contains, option_to_list, option_and_then, option_map, cases_lt, same_Some, none-some, slice_get_past, All-contains}
+use Rattle.search_laws.specs.{collapse}
+use Rattle.mode_network.specs.{Arc, Node, Step, Wait, Link, Stand, Ride, letter_at, mode_of, stop_node, IsNetwork, Leads, IsStep, AreSteps, declared.steps.Step.TheVariants.Road, NetworkLists.NetworkLists}
+use Rattle.plan_base.specs.{number_of_mode}
 use Rattle.mode_network.proofs.RuleLemmas.{letter_of, letter_is_road}
-use Rattle.hierarchy.specs.Hops.{Hop, AreHops, total}
-use Rattle.hierarchy.specs.Lists.{HierarchyLists, height_in, IsContracted, IsCore}
-use Rattle.hierarchy.specs.Soundness.{HasEntry, IsSound, IsCovered, IsFree}
-use Rattle.hierarchy.proofs.HeightLemmas.{height_most}
-use Rattle.hierarchy.proofs.SoundLemmas.{fits, contracted_free, shaped}
-use Rattle.phase_graph.specs.Moves.{PhaseMove, rest, cross, IsCrossing, AreMoves}
-use Rattle.phase_graph.specs.Laws.{HasPhaseWalk, JourneysHavePhaseWalks}
-use Rattle.phase_graph.proofs.WordLemmas.{same_letter, same_letters, again}
-use Rattle.phase_graph.proofs.MoveLemmas.{moves_then, last_part, core_part}
+use Rattle.hierarchy.specs.{Hop, AreHops, total, HierarchyLists, height_in, IsContracted, IsCore, HasEntry, IsSound, IsCovered, IsFree}
+use Rattle.hierarchy.proofs.{HeightLemmas.height_most, SoundLemmas.fits, SoundLemmas.contracted_free, SoundLemmas.shaped}
+use Rattle.phase_graph.specs.{PhaseMove, rest, cross, IsCrossing, AreMoves, HasPhaseWalk, JourneysHavePhaseWalks}
+use Rattle.phase_graph.proofs.{WordLemmas.same_letter, WordLemmas.same_letters, WordLemmas.again, MoveLemmas.moves_then, MoveLemmas.last_part, MoveLemmas.core_part}
 
 module _ (n : NetworkLists) (h : HierarchyLists) (targets : List ℕ) (network : IsNetwork n) (sound : IsSound n h) where
   road_letter : (v m : ℕ) → letter_at n.roads v ≡ Some m → m < 3

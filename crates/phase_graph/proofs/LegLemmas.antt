@@ -1,17 +1,11 @@
 -- The legs out of a node of the phase graph tell of its first arcs.
-use Rattle.std.proofs.Common.{◌≡◌, ℕ, ◌+◌, ◌<◌, ◌≤◌, ◌∙◌, cond, Bool, true, false, [], length, map, get_or, Some, refl, ap, arith, sym}
-use Rattle.std.proofs.lemmas.List.{get_or-map, length-map}
-use Rattle.search_laws.specs.Ways.{IsLeg}
-use Rattle.search_laws.specs.declared.graph.Leg.{Leg}
-use Rattle.timetable_arcs.specs.Patterns.{TableLists}
+use Rattle.plan_base.proofs.Common.{◌≡◌, ℕ, ◌+◌, ◌<◌, ◌≤◌, ◌∙◌, cond, Bool, true, false, [], length, map, get_or, Some, refl, ap, arith, sym, get_or-map, length-map}
+use Rattle.search_laws.specs.{IsLeg, Leg}
+use Rattle.timetable_arcs.specs.{TableLists}
 use Rattle.mode_network.specs.NetworkLists.{NetworkLists}
-use Rattle.hierarchy.specs.Lists.{HierarchyLists}
-use Rattle.hierarchy.specs.Rules.{IsHierarchy}
-use Rattle.hierarchy.specs.Rises.{Rise, has_legs, leg_of, legs_from, number_before, place_of, rise_places_from, rises_of}
+use Rattle.hierarchy.specs.{HierarchyLists, IsHierarchy, Rise, has_legs, leg_of, legs_from, number_before, place_of, rise_places_from, rises_of, entry_at, no_entry}
 use Rattle.hierarchy.proofs.RiseLemmas.{are_rises_from}
-use Rattle.phase_graph.specs.declared.phases.PhaseArc.{PhaseArc}
-use Rattle.hierarchy.specs.Lookups.{entry_at, no_entry}
-use Rattle.phase_graph.specs.PhaseArcs.{arc_of, is_down, legs_at, node_of, phase_arrival, phase_meaning, rises_at}
+use Rattle.phase_graph.specs.{PhaseArc, arc_of, is_down, legs_at, node_of, phase_arrival, phase_meaning, rises_at}
 use Rattle.phase_graph.proofs.PlaceLemmas.{up_known}
 
 module _ (h : HierarchyLists) (v : ℕ) where

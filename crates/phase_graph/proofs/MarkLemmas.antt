@@ -1,26 +1,10 @@
 -- How marks are set, and that the marked nodes are all from which a chain of entries leads down to a target.
-use Rattle.std.proofs.Common.{◌≡◌, ℕ, ◌+◌, ◌<◌, ◌≤◌, ◌⊎◌, inl, inr, ◌∙◌, nat_eq, cond, Some, Bool, true, false, List, [], ◌∷◌, ◌++◌, length, set, get_or, refl, ap, arith, sym, subst}
-use Rattle.std.specs.Prelude.{All, Contains, IsPermutation, IsSorted, nat_lt}
-use Rattle.std.specs.Ordering.{nat_cmp}
-use Rattle.std.specs.List.{dedup}
+use Rattle.plan_base.proofs.Common.{◌≡◌, ℕ, ◌+◌, ◌<◌, ◌≤◌, ◌⊎◌, inl, inr, ◌∙◌, nat_eq, cond, Some, Bool, true, false, List, [], ◌∷◌, ◌++◌, length, set, get_or, refl, ap, arith, sym, subst, All, Contains, IsPermutation, IsSorted, nat_lt, nat_cmp, dedup, cases_lt, eqb-true, eqb-false, lt-ltb, ltb-true, length_push, length-map, get_or_default, get_or_past, get_or-set_same, get_or-set_other, length-set, Contains-append_left, Contains-append_right, Contains-append_cases, All-contains, Contains-from_dedup, Contains-permutation, IsPermutation-sym, count_by-le-length, sum_by-set, slice_get-get_or}
 use Rattle.std.proofs.Math.ListN.{get_or-map}
-use Rattle.std.proofs.lemmas.Bool.{cases_lt, eqb-true, eqb-false, lt-ltb, ltb-true}
-use Rattle.std.proofs.lemmas.List.{length_push, length-map, get_or_default, get_or_past, get_or-set_same, get_or-set_other, length-set}
-use Rattle.std.proofs.lemmas.List.Elements.{Contains-append_left, Contains-append_right, Contains-append_cases, All-contains}
-use Rattle.std.proofs.lemmas.List.Kept.{AllPairs-from_increasing, Contains-dedup_nat, Contains-from_dedup}
-use Rattle.std.proofs.lemmas.List.Sorted.{Contains-permutation, IsPermutation-sym}
-use Rattle.std.proofs.lemmas.List.Sums.{count_by-le-length, sum_by-set}
+use Rattle.std.proofs.lemmas.List.Kept.{AllPairs-from_increasing, Contains-dedup_nat}
 use Rattle.std.proofs.lemmas.Map.Keys.{IsStrictlyIncreasing-dedup}
-use Rattle.hierarchy.specs.declared.entry.Entry.{Entry}
-use Rattle.hierarchy.specs.Hops.{Hop, AreHops, IsDescent}
-use Rattle.hierarchy.specs.Lists.{HierarchyLists, height_in, IsAbove}
-use Rattle.hierarchy.specs.Soundness.{HasEntry}
-use Rattle.std.proofs.lemmas.Option.{slice_get-get_or}
-use Rattle.hierarchy.specs.Indexes.{AreBelow, AreEndsBelow}
-use Rattle.hierarchy.specs.Lookups.{ArePlaces, FallsTo}
-use Rattle.phase_graph.specs.Moves.{IsMarked}
-use Rattle.phase_graph.specs.Marks.{AreMarksFor, has_mark, marks_in}
-use Rattle.phase_graph.specs.inside.Marking.{AreClear, AreListed, AreMarked, AreMarks, IsMarking, Extends, AreOldOr, IsFollowedAt, IsFollowed, number_at}
+use Rattle.hierarchy.specs.{Entry, Hop, AreHops, IsDescent, HierarchyLists, height_in, IsAbove, HasEntry, AreBelow, AreEndsBelow, ArePlaces, FallsTo}
+use Rattle.phase_graph.specs.{IsMarked, AreMarksFor, has_mark, marks_in, inside.AreClear, inside.AreListed, inside.AreMarked, inside.AreMarks, inside.IsMarking, inside.Extends, inside.AreOldOr, inside.IsFollowedAt, inside.IsFollowed, inside.number_at}
 
 -- ---- one mark
 

@@ -1,16 +1,11 @@
 -- Road parts as moves of the phase graph.
-use Rattle.std.proofs.Common.{◌≡◌, ℕ, ◌+◌, ◌<◌, ◌⊎◌, inl, inr, Bool, true, false, List, [], ◌∷◌, ◌++◌, Some, length, refl, sym, ap, subst, ◌∙◌, append_assoc, arith}
-use Rattle.std.specs.Prelude.{Contains, option_to_list}
-use Rattle.search_laws.specs.Collapse.{collapse}
-use Rattle.mode_network.specs.NetworkLists.{NetworkLists, letter_at}
+use Rattle.plan_base.proofs.Common.{◌≡◌, ℕ, ◌+◌, ◌<◌, ◌⊎◌, inl, inr, Bool, true, false, List, [], ◌∷◌, ◌++◌, Some, length, refl, sym, ap, subst, ◌∙◌, append_assoc, arith, Contains, option_to_list}
+use Rattle.search_laws.specs.{collapse}
+use Rattle.mode_network.specs.{NetworkLists.NetworkLists, letter_at}
 use Rattle.mode_network.proofs.RuleLemmas.{letter_of}
-use Rattle.hierarchy.specs.Hops.{Hop, AreHops, total, IsDescent}
-use Rattle.hierarchy.specs.Lists.{HierarchyLists, height_in, IsContracted, IsCore}
-use Rattle.hierarchy.specs.Soundness.{HasEntry, IsSound}
-use Rattle.hierarchy.proofs.HeightLemmas.{height_most}
-use Rattle.hierarchy.proofs.Shapes.{IsShaped}
-use Rattle.hierarchy.proofs.SoundLemmas.{fits}
-use Rattle.phase_graph.specs.Moves.{PhaseMove, rise, fall, stand, IsMarked, AreMoves}
+use Rattle.hierarchy.specs.{Hop, AreHops, total, IsDescent, HierarchyLists, height_in, IsContracted, IsCore, HasEntry, IsSound}
+use Rattle.hierarchy.proofs.{HeightLemmas.height_most, Shapes.IsShaped, SoundLemmas.fits}
+use Rattle.phase_graph.specs.{PhaseMove, rise, fall, stand, IsMarked, AreMoves}
 use Rattle.phase_graph.proofs.WordLemmas.{same_letter, again}
 
 -- moves, and then more

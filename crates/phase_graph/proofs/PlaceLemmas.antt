@@ -1,12 +1,10 @@
 -- Where the arcs of each kind stand among those of a node of the phase graph.
-use Rattle.std.proofs.Common.{◌≡◌, ℕ, ◌+◌, ◌-◌, ◌<◌, ◌≤◌, ◌∙◌, Bool, true, false, length, get_or, refl, ap, arith}
-use Rattle.std.proofs.lemmas.Bool.{lt-ltb, le-ltb}
-use Rattle.timetable_arcs.specs.Patterns.{TableLists}
+use Rattle.plan_base.proofs.Common.{◌≡◌, ℕ, ◌+◌, ◌-◌, ◌<◌, ◌≤◌, ◌∙◌, Bool, true, false, length, get_or, refl, ap, arith, lt-ltb, le-ltb}
+use Rattle.timetable_arcs.specs.{TableLists}
 use Rattle.mode_network.specs.NetworkLists.{NetworkLists}
-use Rattle.hierarchy.specs.Lists.{HierarchyLists}
-use Rattle.plain_graph.specs.PlainArcs.{arcs_at}
-use Rattle.phase_graph.specs.declared.phases.PhaseArc.TheVariants.{Up, Down, Other}
-use Rattle.phase_graph.specs.PhaseArcs.{phase_arc, rises_at, first_entry, entries_at, first_other, others_at}
+use Rattle.hierarchy.specs.{HierarchyLists}
+use Rattle.plain_graph.specs.{arcs_at}
+use Rattle.phase_graph.specs.{Up, Down, Other, phase_arc, rises_at, first_entry, entries_at, first_other, others_at}
 
 module _ (n : NetworkLists) (h : HierarchyLists) (v : ℕ) (down : Bool) where
   abbrev ups : ℕ

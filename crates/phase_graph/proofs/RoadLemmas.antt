@@ -1,22 +1,12 @@
 -- The road arcs under an entry, and each phase walk as a journey.
-use Rattle.std.proofs.Common.{◌≡◌, ℕ, ◌+◌, ◌<◌, Bool, List, [], ◌∷◌, ◌++◌, Some, refl, sym, ap, subst, ◌∙◌, append_assoc, arith}
-use Rattle.std.specs.Prelude.{Option, option_to_list}
-use Rattle.std.proofs.lemmas.List.Elements.{All-contains}
-use Rattle.search_laws.specs.Collapse.{collapse}
-use Rattle.mode_network.specs.declared.steps.Step.{Step}
-use Rattle.mode_network.specs.declared.steps.Step.TheVariants.{Wait, Road, Stand}
-use Rattle.plan_base.specs.Modes.{number_of_mode}
-use Rattle.mode_network.specs.NetworkLists.{NetworkLists, letter_at}
-use Rattle.mode_network.specs.Rules.{IsNetwork}
-use Rattle.mode_network.specs.Journeys.{Leads, IsStep, AreSteps}
+use Rattle.plan_base.proofs.Common.{◌≡◌, ℕ, ◌+◌, ◌<◌, Bool, List, [], ◌∷◌, ◌++◌, Some, refl, sym, ap, subst, ◌∙◌, append_assoc, arith, Option, option_to_list, All-contains}
+use Rattle.search_laws.specs.{collapse}
+use Rattle.mode_network.specs.{Step, Wait, Stand, letter_at, IsNetwork, Leads, IsStep, AreSteps, declared.steps.Step.TheVariants.Road, NetworkLists.NetworkLists}
+use Rattle.plan_base.specs.{number_of_mode}
 use Rattle.mode_network.proofs.RuleLemmas.{letter_of, letter_is_road}
-use Rattle.hierarchy.specs.Hops.{Hop, AreHops, total}
-use Rattle.hierarchy.specs.Lists.{HierarchyLists}
-use Rattle.hierarchy.specs.Soundness.{HasEntry, IsSound, IsCovered}
-use Rattle.hierarchy.proofs.RoadLemmas.{Roads, roads_under}
-use Rattle.hierarchy.proofs.SoundLemmas.{fits}
-use Rattle.phase_graph.specs.Moves.{PhaseMove, rest, rise, fall, cross, stand, AreMoves}
-use Rattle.phase_graph.specs.Laws.{HasJourney, PhaseWalksHaveJourneys}
+use Rattle.hierarchy.specs.{Hop, AreHops, total, HierarchyLists, HasEntry, IsSound, IsCovered}
+use Rattle.hierarchy.proofs.{RoadLemmas.Roads, RoadLemmas.roads_under, SoundLemmas.fits}
+use Rattle.phase_graph.specs.{PhaseMove, rest, rise, fall, cross, stand, AreMoves, HasJourney, PhaseWalksHaveJourneys}
 use Rattle.phase_graph.proofs.WordLemmas.{same_letter, same_letters, again}
 
 -- steps, and then more

@@ -1,13 +1,9 @@
 -- A phase graph keeps the journeys to its targets.
-use Rattle.std.proofs.Common.{ℕ, false, List}
-use Rattle.search_laws.specs.GraphLaws.{GraphMeaning}
-use Rattle.search_laws.specs.Walks.{word_from}
-use Rattle.mode_network.specs.NetworkLists.{NetworkLists}
-use Rattle.mode_network.specs.Rules.{IsNetwork}
-use Rattle.hierarchy.specs.Lists.{HierarchyLists}
-use Rattle.hierarchy.specs.Soundness.{IsSound}
-use Rattle.phase_graph.specs.Arcs.{phase_node, IsPhaseGraph}
-use Rattle.phase_graph.specs.Walked.{JourneysHaveWalks, WalksHaveJourneys}
+use Rattle.plan_base.proofs.Common.{ℕ, false, List}
+use Rattle.search_laws.specs.{GraphMeaning, word_from}
+use Rattle.mode_network.specs.{NetworkLists.NetworkLists, IsNetwork}
+use Rattle.hierarchy.specs.{HierarchyLists, IsSound}
+use Rattle.phase_graph.specs.{phase_node, IsPhaseGraph, JourneysHaveWalks, WalksHaveJourneys}
 use Rattle.phase_graph.proofs.ArcLemmas.{walk_of, moves_of}
 use Rattle.phase_graph.proofs.JourneyLemmas as journeys
 use Rattle.phase_graph.proofs.RoadLemmas as roads

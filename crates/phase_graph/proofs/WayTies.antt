@@ -1,41 +1,17 @@
 -- The ways out of a node of the phase graph: along entries, and those that the plain graph has too.
-use Rattle.std.proofs.Common.{◌≡◌, ℕ, ◌+◌, ◌-◌, ◌^◌, ◌<◌, ◌≤◌, Bool, true, false, cond, List, [], ◌∷◌, ◌++◌, length, take, drop, set, get_or, zero, suc, Option, Some, None, refl, sym, ◌∙◌, ap, subst, append_assoc, append-nil, arith}
-use Rattle.std.specs.Prelude.{All, Contains, filter, map, is_some}
-use Rattle.std.specs.List.{range_with_len}
-use Rattle.std.proofs.Math.Seq.{set-append_seam, get_or-append_seam, drop-append_seam, take-append_seam}
-use Rattle.std.proofs.lemmas.List.{drop_more, drop_all, take_more, take_all, take-append-drop, length-append, length-map, length-take-le, length-drop, get_or-drop, map-append}
-use Rattle.std.proofs.lemmas.List.Elements.{All-cons, All-nil, All-append, All-contains, All-weaker}
-use Rattle.search_laws.specs.GraphLaws.{GraphMeaning}
-use Rattle.search_laws.specs.Fresh.{AreFresh, AddsFresh, StandsStill, AreMoving, AddsMoving, visit_by}
-use Rattle.search_laws.specs.Ways.{is_open, moving_letters, way_if, open_way, way_at, ways_from, ways_past}
-use Rattle.search_laws.specs.declared.given.GivenRuns.{GivenRuns}
-use Rattle.search_laws.specs.declared.graph.GraphArc.{GraphArc}
-use Rattle.search_laws.specs.declared.graph.Way.{Way}
-use Rattle.search_laws.proofs.FreshLemmas.{LeadsElsewhere, adds_all, adds_more, fresh_elsewhere, moving_all, moving_append, moving_asked}
-use Rattle.search_laws.proofs.WayLemmas.{ways_split}
-use Rattle.timetable_arcs.specs.Patterns.{TableLists}
-use Rattle.timetable_arcs.specs.Table.{IsTable}
+use Rattle.plan_base.proofs.Common.{◌≡◌, ℕ, ◌+◌, ◌-◌, ◌^◌, ◌<◌, ◌≤◌, Bool, true, false, cond, List, [], ◌∷◌, ◌++◌, length, take, drop, set, get_or, zero, suc, Option, Some, None, refl, sym, ◌∙◌, ap, subst, append_assoc, append-nil, arith, All, Contains, filter, map, is_some, range_with_len, get_or-append_seam, drop-append_seam, take-append_seam, drop_more, take_more, length-append, length-map, length-take-le, length-drop, get_or-drop, map-append, All-cons, All-nil, All-append, All-contains, All-weaker}
+use Rattle.std.proofs.Math.Seq.{set-append_seam}
+use Rattle.search_laws.specs.{GraphMeaning, AreFresh, AddsFresh, StandsStill, AreMoving, AddsMoving, visit_by, is_open, moving_letters, way_if, open_way, way_at, ways_from, ways_past, GivenRuns, GraphArc, Way}
+use Rattle.search_laws.proofs.{FreshLemmas.LeadsElsewhere, FreshLemmas.adds_all, FreshLemmas.adds_more, FreshLemmas.fresh_elsewhere, FreshLemmas.moving_all, FreshLemmas.moving_append, FreshLemmas.moving_asked, WayLemmas.ways_split}
+use Rattle.timetable_arcs.specs.{TableLists, IsTable}
 use Rattle.timetable_arcs.proofs.TableLemmas.{rides_few}
-use Rattle.mode_network.specs.NetworkLists.{NetworkLists, nodes_of, letter_at, stop_at}
-use Rattle.mode_network.specs.Rules.{IsNetwork}
-use Rattle.mode_network.specs.Timetables.{IsTimetableOf}
+use Rattle.mode_network.specs.{NetworkLists.NetworkLists, nodes_of, letter_at, stop_at, IsNetwork, IsTimetableOf}
 use Rattle.mode_network.proofs.IndexLemmas.{range_is_range}
-use Rattle.hierarchy.specs.Lists.{HierarchyLists}
-use Rattle.plain_graph.specs.BoardWays.{plain_rides}
-use Rattle.plain_graph.specs.PlainArcs.{plain_meaning, count_from, inner_arcs_at, rides_from_stop, graph_arc, arrival}
-use Rattle.plain_graph.specs.Lawful.{plain_lawful}
-use Rattle.plain_graph.specs.declared.plain.PlainArc.{PlainArc}
-use Rattle.plain_graph.proofs.PlaceTies.{stand_at, past_roads_stand}
-use Rattle.phase_graph.specs.declared.falls.Fall.{Fall}
-use Rattle.phase_graph.specs.declared.phases.PhaseArc.{PhaseArc}
-use Rattle.phase_graph.specs.declared.phases.PhaseArc.TheVariants.{Down, Other}
-use Rattle.phase_graph.specs.Arcs.{phase_node}
-use Rattle.phase_graph.specs.Marks.{is_fall}
-use Rattle.hierarchy.specs.Lookups.{entry_at}
-use Rattle.phase_graph.specs.PhaseArcs.{phase_meaning, phase_arc, arc_of, phase_arrival, rises_at, first_entry, entries_at, others_at, first_other, node_of, is_down, before_descent, renumbered, phase_rides, FitsAnew}
-use Rattle.phase_graph.specs.inside.Falls.{fall_at, fall_way, falls_from}
-use Rattle.phase_graph.proofs.GraphLemmas.{whole}
-use Rattle.phase_graph.proofs.PlaceLemmas.{down_is, other_is}
+use Rattle.hierarchy.specs.{HierarchyLists, entry_at}
+use Rattle.plain_graph.specs.{plain_rides, plain_meaning, count_from, inner_arcs_at, rides_from_stop, arrival, plain_lawful}
+use Rattle.plain_graph.proofs.PlaceTies.{past_roads_stand}
+use Rattle.phase_graph.specs.{declared.falls.Fall.Fall, PhaseArc, Down, Other, phase_node, is_fall, phase_meaning, phase_arc, arc_of, phase_arrival, rises_at, first_entry, entries_at, others_at, first_other, node_of, is_down, before_descent, renumbered, phase_rides, FitsAnew, inside.fall_at, inside.fall_way, inside.falls_from}
+use Rattle.phase_graph.proofs.{GraphLemmas.whole, PlaceLemmas.down_is, PlaceLemmas.other_is}
 
 -- ---- what is put behind a list
 
@@ -264,35 +240,6 @@ module _ (n : NetworkLists) (h : HierarchyLists) (t : TableLists) (marks : List 
         adds_more (phase_rides n t) state old old new (from start count) moving before first second (adds_all (phase_rides n t) state old (from start count) before first along) adds,
       )
 
-  -- in the descent: the one that stands
-  stand_is : is_down p ≡ true → (mode : ℕ) → letter ≡ Some mode → from (ups + downs) (others_at n t (node_of p) (is_down p)) ≡ open_way letters (ups + downs) (record { to = p; letter = Some mode }) (Some time)
-  stand_is low mode has =
-      let place = count_from n.arcs (node_of p) + count_from n.links (node_of p) in
-      let first : first_other n (node_of p) (is_down p) ≡ place = ap (λ d. first_other n (node_of p) d) low in
-      let one : others_at n t (node_of p) (is_down p) ≡ 1 = ap (λ d. others_at n t (node_of p) d) low ∙ ap (λ (o : Option ℕ). cond (is_some o) 1 0) has in
-      let at : ups + downs ≡ ups + downs + (place - first_other n (node_of p) (is_down p)) = omega (arith, first) in
-      let is = ap arc_there at ∙ other_is n h (node_of p) (is_down p) place (omega (arith, first)) in
-      let stands = stand_at n t 0 0 (node_of p) mode has in
-      ap (from (ups + downs)) one ∙ append-nil (way_at g p time letters (ups + downs)) ∙ way_is (ups + downs) (Other place) is
-      ∙ ap (λ (a : PlainArc). open_way letters (ups + downs) (record { to = phase_node (graph_arc n t (node_of p) a).to (is_down p); letter = (graph_arc n t (node_of p) a).letter }) (arrival t time a)) stands
-      ∙ ap (λ (o : Option ℕ). open_way letters (ups + downs) (record { to = phase_node (node_of p) (is_down p); letter = o }) (Some time)) has
-      ∙ ap (λ x. open_way letters (ups + downs) (record { to = x; letter = Some mode }) (Some time)) (whole p)
-
-  pub stand_ways : is_down p ≡ true → (mode : ℕ) → letter ≡ Some mode → is_open letters (Some mode) ≡ true
-      → from (ups + downs) (others_at n t (node_of p) (is_down p)) ≡ record { place = ups + downs; arc = record { to = p; letter = Some mode }; at = time } ∷ []
-  stand_ways low mode has opens = stand_is low mode has ∙ rw opens refl
-
-  pub stand_closed : (before : List Way) → is_down p ≡ true → (mode : ℕ) → letter ≡ Some mode → is_open letters (Some mode) ≡ false
-      → before ≡ before ++ from (ups + downs) (others_at n t (node_of p) (is_down p))
-  stand_closed before low mode has closed =
-      let none : from (ups + downs) (others_at n t (node_of p) (is_down p)) ≡ [] = stand_is low mode has ∙ rw closed refl in
-      sym (append-nil before) ∙ ap (λ (ws : List Way). before ++ ws) (sym none)
-
-  pub stand_none : (before : List Way) → is_down p ≡ true → letter ≡ None → before ≡ before ++ from (ups + downs) (others_at n t (node_of p) (is_down p))
-  stand_none before low has =
-      let count : others_at n t (node_of p) (is_down p) ≡ 0 = ap (λ d. others_at n t (node_of p) d) low ∙ ap (λ (o : Option ℕ). cond (is_some o) 1 0) has in
-      sym (append-nil before) ∙ ap (λ k. before ++ from (ups + downs) k) (sym count)
-
 -- where nothing falls from a node before the descent, and nothing but road arcs leaves it in the plain graph, no ways are left but those along legs
 pub none_left : (n : NetworkLists) (h : HierarchyLists) (t : TableLists) (marks : List Bool) (p time letters leaving state : ℕ) (given : GivenRuns) → is_down p ≡ false
     → falls_from h marks (first_entry h (node_of p)) (entries_at h (node_of p)) ≡ []
@@ -317,11 +264,6 @@ module _ (f : Way → Way) (old : List Way) (b : ℕ) where
   changed_length k from within =
       length-append (take b old) (map f (take (k - b) (drop b old)))
       ∙ omega (arith, length-take-le b old (omega arith), length-map (take (k - b) (drop b old)) f, length-take-le (k - b) (drop b old) (omega (arith, length-drop b old)))
-
-  pub change_begins : old ≡ changed b ++ drop b old
-  change_begins =
-      let none : b - b ≡ 0 = omega arith in
-      sym (take-append-drop b old) ∙ ap (λ (ws : List Way). ws ++ drop b old) (sym (append-nil (take b old)) ∙ ap (λ k. take b old ++ map f (take k (drop b old))) (sym none))
 
   pub change_more : (k : ℕ) (now : List Way) (w : Way) → b ≤ k → k < length old → w ≡ get_or now k w → now ≡ changed k ++ drop k old → set now k (f w) ≡ changed (k + 1) ++ drop (k + 1) old
   change_more k now w from lt at is =
@@ -349,12 +291,6 @@ module _ (f : Way → Way) (old : List Way) (b : ℕ) where
       let next : drop k old ≡ x ∷ drop (k + 1) old = drop_more old k w lt in
       let long = changed_length k from (omega arith) in
       ap (λ (ws : List Way). get_or ws k w) (is ∙ ap (λ (ws : List Way). changed k ++ ws) next) ∙ ap (λ i. get_or (changed k ++ x ∷ drop (k + 1) old) i w) (sym long) ∙ get_or-append_seam (changed k) x (drop (k + 1) old) w
-
-  pub change_ends : (k : ℕ) (now : List Way) → k ≡ length old → b ≤ k → now ≡ changed k ++ drop k old → now ≡ take b old ++ map f (drop b old)
-  change_ends k now end from is =
-      let none : drop k old ≡ [] = drop_all k old (omega arith) in
-      let all : take (k - b) (drop b old) ≡ drop b old = take_all (k - b) (drop b old) (omega (arith, length-drop b old)) in
-      is ∙ ap (λ (ws : List Way). changed k ++ ws) none ∙ append-nil (changed k) ∙ ap (λ (ws : List Way). take b old ++ map f ws) all
 
 -- ---- how many there are
 

@@ -1,8 +1,6 @@
 -- Words in which adjacent equal road letters are made one, letter by letter.
-use Rattle.std.proofs.Common.{◌≡◌, ℕ, ◌<◌, ◌&&◌, ◌==◌, Bool, true, false, cond, nat_lt, nat_eq, List, [], ◌∷◌, ◌++◌, Some, None, refl, sym, ap, ◌∙◌}
-use Rattle.std.specs.Prelude.{Option, option_to_list, if◌then◌else◌}
-use Rattle.std.proofs.lemmas.Bool.{eqb-true, eq-eqb, lt-ltb, and_from, and_parts}
-use Rattle.search_laws.specs.Collapse.{collapse}
+use Rattle.plan_base.proofs.Common.{◌≡◌, ℕ, ◌<◌, ◌&&◌, ◌==◌, Bool, true, false, cond, nat_lt, nat_eq, List, [], ◌∷◌, ◌++◌, Some, None, refl, sym, ap, ◌∙◌, Option, option_to_list, if◌then◌else◌, eqb-true, eq-eqb, lt-ltb, and_from, and_parts}
+use Rattle.search_laws.specs.{collapse}
 
 -- a letter before a word that is collapsed already
 abbrev push : ℕ → List ℕ → List ℕ

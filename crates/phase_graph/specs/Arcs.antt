@@ -1,10 +1,8 @@
 -- The phase graph as a graph of numbered nodes and arcs.
 use Rattle.std.specs.Prelude.{◌≡◌, ℕ, ◌+◌, ◌≤◌, Bool, true, false, List, Option, Some}
-use Rattle.search_laws.specs.GraphLaws.{GraphMeaning, HasArc}
-use Rattle.search_laws.specs.Walks.{WalkStep, IsWalk, word_from}
+use Rattle.search_laws.specs.{GraphMeaning, HasArc, WalkStep, IsWalk, word_from}
 use Rattle.mode_network.specs.NetworkLists.{NetworkLists}
-use Rattle.hierarchy.specs.Lists.{HierarchyLists}
-use Rattle.hierarchy.specs.Rises.{number_before}
+use Rattle.hierarchy.specs.{HierarchyLists, number_before}
 use Rattle.phase_graph.specs.Moves.{PhaseMove, rest, rise, fall, cross, stand, IsPhaseMove, AreMoves}
 
 -- each node has two numbers: before the descent, and in it

@@ -1,23 +1,11 @@
 -- The graph that a query is answered over: that of the network, or, where a hierarchy is given, its phase graph for the targets.
-use Rattle.std.specs.Prelude.{◌≡◌, ℕ, ◌≤◌, Bool, false, true, List, [], ◌∷◌, map, Option, Some, None, IfSome, Contains, if◌then◌else◌}
-use Rattle.std.specs.List.{flat_map}
-use Rattle.search_laws.specs.Collapse.{collapse}
-use Rattle.search_laws.specs.GraphLaws.{GraphMeaning, HasArc, IsLawfulGraph}
-use Rattle.search_laws.specs.Walks.{WalkStep, IsWalk, word_from}
-use Rattle.timetable_arcs.specs.Patterns.{TableLists}
-use Rattle.timetable_arcs.specs.Table.{IsTable}
-use Rattle.mode_network.specs.declared.steps.Step.{Step}
-use Rattle.mode_network.specs.NetworkLists.{NetworkLists}
-use Rattle.mode_network.specs.Rules.{IsNetwork}
-use Rattle.mode_network.specs.Timetables.{IsTimetableOf}
-use Rattle.mode_network.specs.Journeys.{AreSteps}
-use Rattle.hierarchy.specs.Lists.{HierarchyLists, is_contracted}
-use Rattle.hierarchy.specs.Rules.{IsHierarchy}
-use Rattle.hierarchy.specs.Soundness.{IsSound}
-use Rattle.plain_graph.specs.PlainArcs.{plain_meaning}
-use Rattle.phase_graph.specs.Arcs.{phase_node, IsArcBy}
-use Rattle.phase_graph.specs.Marks.{AreMarksFor}
-use Rattle.phase_graph.specs.PhaseArcs.{phase_meaning, node_of}
+use Rattle.std.specs.Prelude.{◌≡◌, ℕ, ◌≤◌, Bool, false, true, List, [], ◌∷◌, map, Option, Some, None, IfSome, Contains, if◌then◌else◌, flat_map}
+use Rattle.search_laws.specs.{collapse, GraphMeaning, HasArc, IsLawfulGraph, WalkStep, IsWalk, word_from}
+use Rattle.timetable_arcs.specs.{TableLists, IsTable}
+use Rattle.mode_network.specs.{Step, IsNetwork, IsTimetableOf, AreSteps, NetworkLists.NetworkLists}
+use Rattle.hierarchy.specs.{HierarchyLists, is_contracted, IsHierarchy, IsSound}
+use Rattle.plain_graph.specs.{plain_meaning}
+use Rattle.phase_graph.specs.{Arcs.phase_node, Arcs.IsArcBy, Marks.AreMarksFor, PhaseArcs.phase_meaning, PhaseArcs.node_of}
 
 -- the graph of the network; how its timetable sorts runs into patterns is left free
 pub record IsPlain (n : NetworkLists) (g : GraphMeaning) : Type 0 where

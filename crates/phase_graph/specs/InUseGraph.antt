@@ -1,15 +1,11 @@
 -- What the graph in use answers, and what it is made of.
 use Rattle.std.specs.Prelude.{ℕ, length, Option, Some, None}
-use Rattle.search_laws.specs.Fresh.{RunRides}
-use Rattle.search_laws.specs.GraphLaws.{GraphMeaning, IsLawfulGraph}
+use Rattle.search_laws.specs.{RunRides, GraphMeaning, IsLawfulGraph}
 use Rattle.mode_network.specs.NetworkLists.{NetworkLists}
-use Rattle.hierarchy.specs.Lists.{HierarchyLists}
-use Rattle.plain_graph.specs.BoardWays.{plain_rides}
-use Rattle.plain_graph.specs.PlainArcs.{plain_meaning, count_from}
-use Rattle.phase_graph.specs.declared.in_use.GraphInUse.{GraphInUse}
-use Rattle.phase_graph.specs.declared.in_use.GraphInUse.TheVariants.{Plain, Phases}
-use Rattle.phase_graph.specs.Marks.{marks_in}
-use Rattle.phase_graph.specs.PhaseArcs.{phase_meaning, phase_rides, legs_at, node_of, is_down}
+use Rattle.hierarchy.specs.{HierarchyLists}
+use Rattle.plain_graph.specs.{plain_rides, plain_meaning, count_from}
+pub use Rattle.phase_graph.specs.{declared.in_use.GraphInUse.GraphInUse, declared.in_use.GraphInUse.TheVariants.Plain, declared.in_use.GraphInUse.TheVariants.Phases}
+use Rattle.phase_graph.specs.{Marks.marks_in, PhaseArcs.phase_meaning, PhaseArcs.phase_rides, PhaseArcs.legs_at, PhaseArcs.node_of, PhaseArcs.is_down}
 
 abbrev pub meaning_in_use : GraphInUse → GraphMeaning
 meaning_in_use (Plain p) = plain_meaning p.network.now p.timetable.now

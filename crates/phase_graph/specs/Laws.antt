@@ -1,12 +1,8 @@
 -- The phase graph keeps every constrained distance, in both directions.
 use Rattle.std.specs.Prelude.{◌≡◌, ℕ, ◌≤◌, Bool, true, false, List, Contains}
-use Rattle.search_laws.specs.Collapse.{collapse}
-use Rattle.mode_network.specs.NetworkLists.{NetworkLists}
-use Rattle.mode_network.specs.Rules.{IsNetwork}
-use Rattle.mode_network.specs.declared.steps.Step.{Step}
-use Rattle.mode_network.specs.Journeys.{AreSteps}
-use Rattle.hierarchy.specs.Lists.{HierarchyLists, IsContracted}
-use Rattle.hierarchy.specs.Soundness.{IsSound}
+use Rattle.search_laws.specs.{collapse}
+use Rattle.mode_network.specs.{NetworkLists.NetworkLists, IsNetwork, Step, AreSteps}
+use Rattle.hierarchy.specs.{HierarchyLists, IsContracted, IsSound}
 use Rattle.phase_graph.specs.Moves.{PhaseMove, AreMoves}
 
 -- moves lead from v at t to w by the limit, where they end before the descent or at a contracted node, and their word collapses to the same

@@ -1,8 +1,6 @@
 -- The marks of nodes: one has a mark where a chain of entries, each to a lower node, leads from it to a target.
 use Rattle.std.specs.Prelude.{◌≡◌, ℕ, Bool, true, false, ◌&&◌, ◌<◌, nat_lt, List, length, map, slice_index_or}
-use Rattle.hierarchy.specs.declared.entry.Entry.{Entry}
-use Rattle.hierarchy.specs.Lists.{HierarchyLists, is_above}
-use Rattle.hierarchy.specs.Indexes.{AreBelow}
+use Rattle.hierarchy.specs.{Entry, HierarchyLists, is_above, AreBelow}
 use Rattle.phase_graph.specs.Moves.{IsMarked}
 
 -- the marks are listed by node; nodes past the end have none

@@ -1,12 +1,7 @@
 -- What a rider may do in the phase graph of a hierarchy: climb over entries, go along the core, and descend to the targets.
 use Rattle.std.specs.Prelude.{◌≡◌, ℕ, ◌+◌, ◌≤◌, ◌⊎◌, Bool, true, false, List, [], ◌∷◌, ◌++◌, Option, Some, None, Contains, option_to_list}
-use Rattle.mode_network.specs.NetworkLists.{NetworkLists, letter_at}
-use Rattle.mode_network.specs.declared.steps.Step.{Step}
-use Rattle.mode_network.specs.declared.steps.Step.TheVariants.{Wait, Road, Link, Stand, Ride}
-use Rattle.mode_network.specs.Journeys.{IsStep}
-use Rattle.hierarchy.specs.Hops.{Hop, AreHops, IsDescent}
-use Rattle.hierarchy.specs.Lists.{HierarchyLists, height_in, IsAbove, IsCore}
-use Rattle.hierarchy.specs.Soundness.{HasEntry}
+use Rattle.mode_network.specs.{NetworkLists.NetworkLists, letter_at, Step, Wait, Link, Stand, Ride, IsStep, declared.steps.Step.TheVariants.Road}
+use Rattle.hierarchy.specs.{Hop, AreHops, IsDescent, HierarchyLists, height_in, IsAbove, IsCore, HasEntry}
 
 -- a chain of entries, each to a lower node, leads from v to a target; the empty chain counts
 pub record IsMarked (h : HierarchyLists) (targets : List ℕ) (v : ℕ) : Type 0 where

@@ -2,22 +2,13 @@
 -- those arrive that lead down from a node with a mark to another; and then the arcs of the network that are no road arcs, of which in the descent
 -- there is one that stands at most.
 use Rattle.std.specs.Prelude.{◌≡◌, ℕ, ◌+◌, ◌-◌, ◌*◌, ◌/◌, ◌%◌, ◌^◌, ◌==◌, ◌<◌, ◌≤◌, nat_lt, Bool, true, false, List, [], length, map, Option, Some, None, if◌then◌else◌, slice_index_or}
-use Rattle.search_laws.specs.Fresh.{RunRides}
-use Rattle.search_laws.specs.GraphLaws.{GraphMeaning}
-use Rattle.search_laws.specs.declared.graph.GraphArc.{GraphArc}
-use Rattle.search_laws.specs.declared.graph.Leg.{Leg}
-use Rattle.search_laws.specs.declared.graph.Way.{Way}
-use Rattle.timetable_arcs.specs.Patterns.{TableLists}
-use Rattle.mode_network.specs.NetworkLists.{NetworkLists, nodes_of, letter_at}
-use Rattle.hierarchy.specs.Lists.{HierarchyLists}
-use Rattle.hierarchy.specs.Lookups.{entry_at, range_of, from_of}
-use Rattle.hierarchy.specs.Rises.{legs_from, rise_places_from}
-use Rattle.plain_graph.specs.BoardWays.{plain_rides}
-use Rattle.plain_graph.specs.PlainArcs.{plain_meaning, count_from, stands_at, inner_arcs_at, arcs_at}
-use Rattle.phase_graph.specs.declared.phases.PhaseArc.{PhaseArc}
-use Rattle.phase_graph.specs.declared.phases.PhaseArc.TheVariants.{Up, Down, Other}
-use Rattle.phase_graph.specs.Arcs.{phase_node}
-use Rattle.phase_graph.specs.Marks.{is_fall}
+use Rattle.search_laws.specs.{RunRides, GraphMeaning, GraphArc, Leg, Way}
+use Rattle.timetable_arcs.specs.{TableLists}
+use Rattle.mode_network.specs.{NetworkLists.NetworkLists, nodes_of, letter_at, range_of}
+use Rattle.hierarchy.specs.{HierarchyLists, entry_at, from_of, legs_from, rise_places_from}
+use Rattle.plain_graph.specs.{plain_rides, plain_meaning, count_from, stands_at, inner_arcs_at, arcs_at}
+pub use Rattle.phase_graph.specs.{declared.phases.PhaseArc.PhaseArc, declared.phases.PhaseArc.TheVariants.Up, declared.phases.PhaseArc.TheVariants.Down, declared.phases.PhaseArc.TheVariants.Other}
+use Rattle.phase_graph.specs.{Arcs.phase_node, Marks.is_fall}
 
 -- the places of the entries that lead up or along the core; in the descent nothing leads up
 abbrev pub rises_at : HierarchyLists → ℕ → Bool → List ℕ

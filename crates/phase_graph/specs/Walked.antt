@@ -1,14 +1,9 @@
 -- The phase graph keeps the journeys to its targets: as walks of a graph.
 use Rattle.std.specs.Prelude.{◌≡◌, ℕ, ◌≤◌, Bool, true, false, List, Contains}
-use Rattle.search_laws.specs.Collapse.{collapse}
-use Rattle.search_laws.specs.GraphLaws.{GraphMeaning}
-use Rattle.search_laws.specs.Walks.{WalkStep, IsWalk, word_from}
-use Rattle.mode_network.specs.NetworkLists.{NetworkLists}
-use Rattle.mode_network.specs.declared.steps.Step.{Step}
-use Rattle.mode_network.specs.Journeys.{AreSteps}
-use Rattle.hierarchy.specs.Lists.{HierarchyLists, IsContracted}
-use Rattle.phase_graph.specs.Arcs.{phase_node, HasWalk}
-use Rattle.phase_graph.specs.Laws.{HasJourney}
+use Rattle.search_laws.specs.{collapse, GraphMeaning, WalkStep, IsWalk, word_from}
+use Rattle.mode_network.specs.{NetworkLists.NetworkLists, Step, AreSteps}
+use Rattle.hierarchy.specs.{HierarchyLists, IsContracted}
+use Rattle.phase_graph.specs.{Arcs.phase_node, Arcs.HasWalk, Laws.HasJourney}
 
 -- a walk leads from v before the descent to w by the limit, where it ends before the descent or at a contracted node, and its word collapses to the same
 pub record HasWalkBy (h : HierarchyLists) (g : GraphMeaning) (v t w limit : ℕ) (word : List ℕ) : Type 0 where

@@ -1,6 +1,6 @@
 //! The phase graph of a hierarchy, as a graph that can be searched.
 
-ghost use Rattle.std.specs.Prelude.{◌≡◌, ◌<◌, ◌+◌, ◌*◌, ◌^◌, ◌++◌, ◌≤◌, Bool, All, IfOk, OnOk, length, map, take, drop};
+ghost use Rattle.std.specs.Prelude.{◌≡◌, ◌<◌, ◌+◌, ◌*◌, ◌^◌, ◌++◌, ◌≤◌, All, IfOk, OnOk, length, map, take, drop};
 ghost use Rattle.std.proofs.Props.{props};
 ghost use Rattle.search_laws.specs.GraphLaws.{IsLawfulGraph};
 ghost use Rattle.mode_network.specs.NetworkLists.{nodes_of};
@@ -51,7 +51,7 @@ pub struct Phases<'a> {
 }
 
 impl<'a> Phases<'a> {
-    ghost use Rattle.std.specs.Prelude.{◌≡◌, ◌<◌, ◌+◌, ◌*◌, ◌^◌, ◌++◌, ◌≤◌, Bool, true, false, All, IfOk, IsTrue, OnOk, length, slice_index_or};
+    ghost use Rattle.std.specs.Prelude.{◌≡◌, ◌<◌, ◌+◌, ◌*◌, ◌^◌, ◌++◌, ◌≤◌, true, false, All, IfOk, IsTrue, OnOk, length, slice_index_or};
     ghost use Rattle.search_laws.specs.Fresh.{AddsFresh};
     ghost use Rattle.search_laws.specs.Ways.{ways_from, is_open};
     ghost use Rattle.mode_network.specs.NetworkLists.{nodes_of, letter_at};
@@ -61,7 +61,7 @@ impl<'a> Phases<'a> {
     ghost use Rattle.hierarchy.specs.Rises.{has_legs};
     ghost use Rattle.timetable_arcs.specs.Table.{IsTable};
     ghost use Rattle.phase_graph.specs.Walked.{JourneysHaveWalks, WalksHaveJourneys};
-    ghost use Rattle.phase_graph.specs.PhaseArcs.{phase_meaning, rises_at, legs_at, first_entry, entries_at, others_at, first_other, phase_arc, phase_arcs_at, IsArcOutOf, BeginsAt, fall_arrival, phase_rides, node_of, is_down};
+    ghost use Rattle.phase_graph.specs.PhaseArcs.{phase_meaning, rises_at, legs_at, first_entry, entries_at, others_at, first_other, phase_arc, IsArcOutOf, BeginsAt, fall_arrival, phase_rides, node_of, is_down};
     ghost use Rattle.plain_graph.specs.PlainArcs.{plain_meaning, arcs_at};
 
     /// The phase graph of a sound hierarchy for these targets, which are nodes of the network. For each journey to a

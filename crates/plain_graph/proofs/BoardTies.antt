@@ -1,26 +1,10 @@
 -- The rides that can be taken out of a stop are those of its boards in turn.
-use Rattle.std.proofs.Common.{◌≡◌, ℕ, ◌+◌, ◌-◌, ◌<◌, ◌≤◌, ◌^◌, List, [], ◌∷◌, ◌++◌, length, map, drop, Bool, true, false, cond, zero, suc, Some, None, refl, sym, ◌∙◌, ap, append_assoc, append-nil, length-append, arith}
-use Rattle.std.specs.Prelude.{All, Option, slice_index, slice_index_or, is_some}
-use Rattle.std.specs.List.{flat_map}
-use Rattle.std.proofs.lemmas.List.{drop_more, drop_all}
-use Rattle.std.proofs.lemmas.List.Elements.{All-cons, All-nil, All-weaker}
-use Rattle.std.proofs.lemmas.Bool.{le-ltb}
-use Rattle.search_laws.specs.Ways.{is_open, open_way, way_at, ways_from}
-use Rattle.search_laws.specs.declared.graph.Way.{Way}
-use Rattle.timetable_arcs.specs.declared.trips.Call.{Call}
-use Rattle.timetable_arcs.specs.declared.trips.Instance.{Instance}
-use Rattle.timetable_arcs.specs.declared.rides.Board.{Board}
-use Rattle.timetable_arcs.specs.declared.rides.Ride.{Ride as RideCalls}
-use Rattle.timetable_arcs.specs.Patterns.{TableLists, AreAlike, trip_at, call_of, pattern_trip, next_run, no_call}
-use Rattle.timetable_arcs.specs.Rides.{rides_at, boards_at, alights}
-use Rattle.timetable_arcs.proofs.RideLemmas.{ride_to, no_board, rides_on, AreCounted, from_rides, from_counted, IsBoardOf, boards_fit}
-use Rattle.timetable_arcs.specs.Table.{IsTable}
-use Rattle.timetable_arcs.proofs.TableLemmas.{rides_few}
-use Rattle.mode_network.specs.NetworkLists.{NetworkLists, letter_at, stop_at}
-use Rattle.plain_graph.specs.declared.plain.PlainArc.{PlainArc}
-use Rattle.plain_graph.specs.declared.plain.PlainArc.TheVariants.{Ride}
-use Rattle.plain_graph.specs.PlainArcs.{plain_arc, plain_meaning, graph_arc, arrival, count_from, rides_of, rides_from_stop, no_ride, pattern_call}
-use Rattle.plain_graph.specs.BoardWays.{call_way, call_ways, day_ways, ride_way, ride_ways, run_ways, board_ways, boards_ways}
+use Rattle.plan_base.proofs.Common.{◌≡◌, ℕ, ◌+◌, ◌-◌, ◌<◌, ◌≤◌, ◌^◌, List, [], ◌∷◌, ◌++◌, length, map, drop, Bool, true, false, cond, zero, suc, Some, None, refl, sym, ◌∙◌, ap, append_assoc, append-nil, length-append, arith, All, Option, slice_index, slice_index_or, is_some, flat_map, drop_more, drop_all, All-cons, All-nil, All-weaker, le-ltb}
+use Rattle.search_laws.specs.{is_open, open_way, way_at, ways_from, Way}
+use Rattle.timetable_arcs.specs.{Call, Instance, Board, Ride as RideCalls, TableLists, AreAlike, trip_at, call_of, pattern_trip, next_run, no_call, rides_at, boards_at, alights, IsTable}
+use Rattle.timetable_arcs.proofs.{RideLemmas.ride_to, RideLemmas.no_board, RideLemmas.rides_on, RideLemmas.AreCounted, RideLemmas.from_rides, RideLemmas.from_counted, RideLemmas.IsBoardOf, RideLemmas.boards_fit, TableLemmas.rides_few}
+use Rattle.mode_network.specs.{NetworkLists.NetworkLists, letter_at, stop_at}
+use Rattle.plain_graph.specs.{PlainArc, Ride, plain_arc, plain_meaning, graph_arc, arrival, count_from, rides_of, rides_from_stop, no_ride, pattern_call, call_way, call_ways, day_ways, ride_way, ride_ways, run_ways, board_ways, boards_ways}
 
 module _ (n : NetworkLists) (t : TableLists) (time letters v : ℕ) where
   -- a ride as the arc at a place, if it can be taken

@@ -1,26 +1,11 @@
 -- The rides of a run that the state of an automaton was given are as good wherever they stand.
-use Rattle.std.proofs.Common.{◌≡◌, ℕ, ◌+◌, ◌-◌, ◌<◌, ◌≤◌, inl, inr, List, [], ◌∷◌, ◌++◌, length, take, drop, Bool, true, false, cond, zero, suc, Some, refl, sym, subst, ◌∙◌, ap, append-nil, arith}
-use Rattle.std.specs.Prelude.{◌*◌, Contains, slice_get, slice_index, slice_index_or, min, nat_le}
-use Rattle.std.specs.List.{flat_map}
-use Rattle.std.proofs.lemmas.List.Concat.{flat_map-append}
-use Rattle.std.proofs.lemmas.Bool.{leb-true, leb-false}
-use Rattle.std.proofs.lemmas.List.{get_or-drop, get_or_default, length-drop, take_more, drop-drop, drop_all, drop-append-le, take-append-drop, length-take-le}
-use Rattle.std.proofs.lemmas.Option.{slice_get_within, get_or_from_slice_get}
-use Rattle.std.proofs.lemmas.List.Elements.{Contains-append_left, Contains-append_cases}
-use Rattle.search_laws.specs.declared.graph.Way.{Way}
-use Rattle.search_laws.specs.declared.given.GivenRun.{GivenRun}
-use Rattle.search_laws.specs.declared.given.GivenRuns.{GivenRuns}
-use Rattle.search_laws.specs.Fresh.{KnowsBy, IsRunNoted, HasAsGood, WasGiven, HasAsGoodOrGiven, AddsFresh}
+use Rattle.plan_base.proofs.Common.{◌≡◌, ℕ, ◌+◌, ◌-◌, ◌<◌, ◌≤◌, inl, inr, List, [], ◌∷◌, ◌++◌, length, take, drop, Bool, true, false, cond, zero, suc, Some, refl, sym, subst, ◌∙◌, ap, append-nil, arith, ◌*◌, Contains, slice_get, slice_index, slice_index_or, min, nat_le, flat_map, flat_map-append, leb-true, leb-false, get_or-drop, get_or_default, length-drop, take_more, drop-drop, drop_all, drop-append-le, take-append-drop, length-take-le, slice_get_within, get_or_from_slice_get, Contains-append_left, Contains-append_cases}
+use Rattle.search_laws.specs.{Way, GivenRun, GivenRuns, KnowsBy, IsRunNoted, HasAsGood, WasGiven, HasAsGoodOrGiven, AddsFresh}
 use Rattle.search_laws.proofs.FreshLemmas.{as_good_right, as_good_through, all_from, fresh_none, fresh_noted, adds_more}
-use Rattle.timetable_arcs.specs.declared.trips.Call.{Call}
-use Rattle.timetable_arcs.specs.declared.trips.Instance.{Instance}
-use Rattle.timetable_arcs.specs.declared.rides.Board.{Board}
-use Rattle.timetable_arcs.proofs.RideLemmas.{no_board}
-use Rattle.timetable_arcs.specs.Patterns.{TableLists, AreAlike, trip_at, runs_of, pattern_trip, no_run, no_call}
-use Rattle.timetable_arcs.specs.Table.{IsTable}
-use Rattle.timetable_arcs.proofs.RunLemmas.{in_order}
-use Rattle.mode_network.specs.NetworkLists.{NetworkLists, stop_node}
-use Rattle.plain_graph.specs.BoardWays.{call_way, call_ways, day_ways, rides_behind, run_ways, board_ways, boards_ways, plain_rides}
+use Rattle.timetable_arcs.specs.{Call, Instance, Board, TableLists, AreAlike, trip_at, runs_of, pattern_trip, no_run, no_call, IsTable}
+use Rattle.timetable_arcs.proofs.{RideLemmas.no_board, RunLemmas.in_order}
+use Rattle.mode_network.specs.{NetworkLists.NetworkLists, stop_node}
+use Rattle.plain_graph.specs.{call_way, call_ways, day_ways, rides_behind, run_ways, board_ways, boards_ways, plain_rides}
 use Rattle.plain_graph.proofs.BoardTies.{run_is}
 
 module _ (n : NetworkLists) (base letter : ℕ) where

@@ -1,22 +1,9 @@
 -- The rides from one board have one letter.
-use Rattle.std.proofs.Common.{◌≡◌, ℕ, ◌+◌, ◌-◌, ◌<◌, ◌≤◌, List, length, get_or, nat_le, true, false, Some, None, inl, inr, sym, ◌∙◌, ap, arith}
-use Rattle.std.specs.Prelude.{slice_index_or}
-use Rattle.std.specs.List.Sorted.{IsPartitionedBy, IsPartitionPoint}
-use Rattle.std.proofs.lemmas.Bool.{leb-true, le-leb, cases_lt}
-use Rattle.std.proofs.lemmas.Bool.Decides.{nat_tests}
-use Rattle.std.proofs.lemmas.List.Sorted.{IsPartitionedBy-leb}
-use Rattle.std.proofs.lemmas.Option.{slice_get-get_or, slice_get_past, get_or_from_slice_get}
-use Rattle.timetable_arcs.specs.declared.rides.Board.{Board}
-use Rattle.timetable_arcs.specs.declared.rides.Ride.{Ride as RideCalls}
-use Rattle.timetable_arcs.specs.Patterns.{TableLists, pattern_trip}
-use Rattle.timetable_arcs.specs.Rides.{rides_at, boards_at}
-use Rattle.timetable_arcs.specs.RideTables.{end_at, rides_end}
+use Rattle.plan_base.proofs.Common.{◌≡◌, ℕ, ◌-◌, ◌<◌, ◌≤◌, List, length, get_or, nat_le, true, false, inl, inr, sym, ◌∙◌, ap, arith, slice_index_or, IsPartitionedBy, IsPartitionPoint, leb-true, le-leb, cases_lt, nat_tests, IsPartitionedBy-leb, slice_get-get_or, slice_get_past, get_or_from_slice_get}
+use Rattle.timetable_arcs.specs.{Board, Ride as RideCalls, TableLists, rides_at, boards_at, end_at, rides_end}
 use Rattle.timetable_arcs.proofs.RideLemmas.{no_board, boards_rise, ride_found}
-use Rattle.mode_network.specs.NetworkLists.{NetworkLists, letter_at, stop_at}
-use Rattle.plain_graph.specs.declared.plain.PlainArc.{PlainArc}
-use Rattle.plain_graph.specs.PlainArcs.{plain_arc, plain_meaning, graph_arc, count_from, rides_from_stop, arcs_at, no_ride}
-use Rattle.plain_graph.specs.Rides.{IsPastBoard}
-use Rattle.plain_graph.proofs.BoardTies.{at_ride, before_few}
+use Rattle.plain_graph.specs.{no_ride, IsPastBoard}
+use Rattle.plain_graph.proofs.BoardTies.{before_few}
 
 -- a board is found for the ride i among those of a stop
 module _ (t : TableLists) (stop i place : ℕ) (bounded : place ≤ length (boards_at t stop))
@@ -59,20 +46,3 @@ pub past_found : (t : TableLists) (stop i place past : ℕ) (boards : List Board
 past_found t stop i place past boards are inside bounded search_ends is =
     let ends = rw are at search_ends in
     rw (is, are) (past_board t stop i place (rw are at bounded) (ends (IsPartitionedBy-leb (λ (b : Board). b.before) (boards_at t stop) i (boards_rise t stop))) inside)
-
--- out of a stop
-module _ (n : NetworkLists) (t : TableLists) (v stop : ℕ) (found : stop_at n v ≡ Some stop) (no_road : letter_at n.roads v ≡ None) where
-  abbrev outer : ℕ
-  outer = count_from n.arcs v + count_from n.links v
-
-  ride_letter : (k : ℕ) → outer ≤ k → ((plain_meaning n t).arc_at v k).letter ≡ Some (pattern_trip t (slice_index_or (rides_at t stop) (k - outer) no_ride).pattern).letter
-  ride_letter k from =
-      let same : k ≡ outer + (k - outer) = omega (arith, from) in
-      ap (λ (a : PlainArc). (graph_arc n t v a).letter) (ap (plain_arc n t v) same ∙ at_ride n t 0 0 v stop found no_road (k - outer))
-
-  pub one_letter : (i past : ℕ) → outer ≤ i → IsPastBoard t stop (i - outer) past → (k : ℕ) → i ≤ k → k < outer + past → ((plain_meaning n t).arc_at v k).letter ≡ ((plain_meaning n t).arc_at v i).letter
-  one_letter i past from board k le lt =
-      ride_letter k (omega (arith, from, le)) ∙ ap (λ p. Some (pattern_trip t p).letter) (board.same (k - outer) (omega (arith, le)) (omega (arith, from, le, lt))) ∙ sym (ride_letter i from)
-
-  pub past_within : (i past : ℕ) → IsPastBoard t stop i past → outer + past ≤ arcs_at n t v
-  past_within i past board = let rides = ap (λ o. length (rides_from_stop t o)) found in omega (arith, board.within, rides)

@@ -1,26 +1,12 @@
 -- The road arcs, the links and the arc that stands, as the ways at their places.
-use Rattle.std.proofs.Common.{◌≡◌, ℕ, ◌+◌, ◌-◌, ◌<◌, ◌≤◌, ◌⊎◌, inl, inr, Bool, nat_lt, List, [], ◌∷◌, ◌++◌, length, true, false, cond, Some, None, refl, sym, ◌∙◌, ap, append_assoc, append-nil, arith}
-use Rattle.std.specs.Prelude.{Option, map, slice_index_or, is_some}
-use Rattle.std.proofs.lemmas.Bool.{false≢true, le-ltb, lt-ltb}
-use Rattle.std.proofs.lemmas.List.{get_or-map, length-map}
+use Rattle.plan_base.proofs.Common.{◌≡◌, ℕ, ◌+◌, ◌-◌, ◌<◌, ◌≤◌, ◌⊎◌, inl, inr, Bool, nat_lt, List, [], ◌∷◌, ◌++◌, length, true, false, cond, Some, None, refl, sym, ◌∙◌, ap, append_assoc, append-nil, arith, Option, map, slice_index_or, is_some, false≢true, le-ltb, lt-ltb, get_or-map, length-map}
 use Rattle.std.proofs.lemmas.List.Edits.{length-between, get_or-between}
-use Rattle.search_laws.specs.Ways.{is_open, open_way, way_at, ways_from, IsLeg}
-use Rattle.search_laws.specs.declared.graph.Leg.{Leg}
-use Rattle.search_laws.specs.declared.graph.Way.{Way}
-use Rattle.search_laws.specs.Fresh.{StandsStill}
-use Rattle.search_laws.proofs.FreshLemmas.{closed_unset}
-use Rattle.search_laws.proofs.WayLemmas.{ways_more, ways_split}
-use Rattle.timetable_arcs.specs.Patterns.{TableLists}
-use Rattle.timetable_arcs.specs.Rides.{rides_at, boards_at}
-use Rattle.mode_network.specs.declared.nodes.Arc.{Arc}
-use Rattle.mode_network.specs.NetworkLists.{NetworkLists, letter_at, stop_at}
-use Rattle.mode_network.specs.Indexes.{range_from, leg_of, legs_from}
+use Rattle.search_laws.specs.{is_open, open_way, way_at, ways_from, IsLeg, Leg, Way, StandsStill}
+use Rattle.search_laws.proofs.{FreshLemmas.closed_unset, WayLemmas.ways_more, WayLemmas.ways_split}
+use Rattle.timetable_arcs.specs.{TableLists, rides_at, boards_at}
+use Rattle.mode_network.specs.{Arc, letter_at, stop_at, range_from, leg_of, legs_from, NetworkLists.NetworkLists}
 use Rattle.mode_network.proofs.IndexLemmas.{range_is_range}
-use Rattle.plain_graph.specs.declared.plain.PlainArc.{PlainArc}
-use Rattle.plain_graph.specs.declared.plain.PlainArc.TheVariants.{Road, Link, Stand}
-use Rattle.plain_graph.specs.PlainArcs.{plain_arc, plain_meaning, graph_arc, arrival, count_from, stands_at, rides_of, rides_from_stop, inner_arcs_at, no_arc}
-use Rattle.plain_graph.specs.inside.OutArcs.{stop_found, no_mode}
-use Rattle.plain_graph.specs.BoardWays.{boards_ways}
+use Rattle.plain_graph.specs.{PlainArc, Road, Link, Stand, plain_arc, plain_meaning, graph_arc, arrival, count_from, stands_at, rides_of, rides_from_stop, inner_arcs_at, no_arc, boards_ways, inside.stop_found, inside.no_mode}
 use Rattle.plain_graph.proofs.BoardTies.{stop_ways}
 
 -- the legs of a node are those of its road arcs

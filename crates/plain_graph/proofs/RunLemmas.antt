@@ -1,27 +1,10 @@
 -- The run that a ride takes is one of the timetable.
-use Rattle.std.proofs.Common.{◌≡◌, ℕ, ◌<◌, ◌≤◌, ◌^◌, ◌%◌, length, Bool, true, false, nat_lt, Some, refl, ap, subst, arith, lit<}
-use Rattle.std.specs.Prelude.{All, slice_get}
-use Rattle.std.specs.Int.{bit_at}
-use Rattle.std.proofs.Math.Nat.{div-eq_of_lt, pow-le-pow_right}
-use Rattle.std.proofs.lemmas.Bool.{ltb-true, ltb-false}
-use Rattle.std.proofs.lemmas.List.Elements.{All-from_get_or}
-use Rattle.std.proofs.lemmas.Option.{slice_get_within, get_or_from_slice_get}
-use Rattle.plan_base.specs.declared.days.DaySet.{DaySet}
-use Rattle.plan_base.specs.DaySets.{contains_day}
-use Rattle.timetable_arcs.specs.declared.trips.Call.{Call}
-use Rattle.timetable_arcs.specs.declared.trips.Instance.{Instance}
-use Rattle.timetable_arcs.specs.declared.rides.Board.{Board}
-use Rattle.timetable_arcs.specs.declared.rides.Ride.{Ride}
-use Rattle.timetable_arcs.specs.Patterns.{TableLists, IsIn, AreAlike, trip_at, runs_of, pattern_trip, no_call}
-use Rattle.timetable_arcs.specs.Table.{IsTable}
-use Rattle.timetable_arcs.proofs.RideLemmas.{IsBoardOf}
-use Rattle.timetable_arcs.proofs.TripLemmas.{trip_well, known_stops}
-use Rattle.timetable_arcs.proofs.TableLemmas.{trip_of_run, trip_of_pattern, next_is, pattern_short}
-use Rattle.mode_network.specs.NetworkLists.{NetworkLists}
-use Rattle.mode_network.specs.Rules.{IsNetwork}
-use Rattle.mode_network.specs.Timetables.{IsTimetableOf}
-use Rattle.plain_graph.specs.PlainArcs.{run_at, pattern_call}
-use Rattle.plain_graph.specs.Rides.{IsRideOf}
+use Rattle.plan_base.proofs.Common.{◌≡◌, ℕ, ◌<◌, ◌≤◌, ◌^◌, ◌%◌, length, Bool, true, false, nat_lt, Some, refl, ap, subst, arith, lit<, All, slice_get, bit_at, div-eq_of_lt, pow-le-pow_right, ltb-true, ltb-false, All-from_get_or, slice_get_within, get_or_from_slice_get}
+use Rattle.plan_base.specs.{DaySet, contains_day}
+use Rattle.timetable_arcs.specs.{Call, Instance, Board, Ride, TableLists, IsIn, AreAlike, trip_at, runs_of, pattern_trip, no_call, IsTable}
+use Rattle.timetable_arcs.proofs.{RideLemmas.IsBoardOf, TripLemmas.trip_well, TripLemmas.known_stops, TableLemmas.trip_of_run, TableLemmas.trip_of_pattern, TableLemmas.next_is, TableLemmas.pattern_short}
+use Rattle.mode_network.specs.{NetworkLists.NetworkLists, IsNetwork, IsTimetableOf}
+use Rattle.plain_graph.specs.{run_at, pattern_call, IsRideOf}
 
 -- a set of days below so many has no later one
 day_within : (set : DaySet) (days day : ℕ) → set.0 < 2 ^ days → contains_day set day ≡ true → day < days

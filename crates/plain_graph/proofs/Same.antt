@@ -1,33 +1,10 @@
 -- The walks of the graph of a network are its journeys, step by step.
-use Rattle.std.proofs.Common.{◌≡◌, ℕ, ◌++◌, ◌∷◌, [], ◌∙◌, ◌≤◌, ◌<◌, List, length, Option, Some, None, refl, ap, sym, subst, arith}
-use Rattle.std.specs.Prelude.{option_to_list, option_map, slice_index_or}
-use Rattle.std.proofs.lemmas.List.{get_or_default}
-use Rattle.std.proofs.lemmas.Option.{slice_get-get_or, slice_get_within, get_or_from_slice_get}
-use Rattle.search_laws.specs.Walks.{wait, arc, IsWalk, word_from}
-use Rattle.timetable_arcs.specs.declared.trips.Call.{Call}
-use Rattle.timetable_arcs.specs.declared.trips.Instance.{Instance}
-use Rattle.timetable_arcs.specs.declared.rides.Ride.{Ride as RideCalls}
-use Rattle.timetable_arcs.specs.Trips.{TripLists, IsRunOf, IsRide, arrival_of, departure_of}
-use Rattle.timetable_arcs.specs.Patterns.{TableLists, IsIn, IsAlike, AreAlike, trip_at, pattern_trip, call_of, departs, arrives, no_trip, no_call}
-use Rattle.timetable_arcs.specs.Rides.{IsRideAt}
-use Rattle.timetable_arcs.specs.Table.{IsTable}
-use Rattle.timetable_arcs.proofs.TableLemmas.{next_first, next_none, trip_of_run}
-use Rattle.timetable_arcs.proofs.TripLemmas.{known_stops}
-use Rattle.timetable_arcs.proofs.RunLemmas.{within_patterns}
-use Rattle.mode_network.specs.declared.nodes.Arc.{Arc}
-use Rattle.mode_network.specs.declared.steps.Step.{Step}
-use Rattle.mode_network.specs.declared.steps.Step.TheVariants.{Wait, Road as TakeRoad, Link as TakeLink, Stand as StandStill, Ride as TakeRide}
-use Rattle.mode_network.specs.NetworkLists.{NetworkLists, stop_node}
-use Rattle.mode_network.specs.Rules.{IsNetwork}
-use Rattle.mode_network.specs.Timetables.{IsTimetableOf}
-use Rattle.mode_network.specs.Journeys.{Leads, IsStep}
-use Rattle.plain_graph.specs.declared.plain.PlainArc.{PlainArc}
-use Rattle.plain_graph.specs.declared.plain.PlainArc.TheVariants.{Road, Link, Stand, Ride}
-use Rattle.plain_graph.specs.PlainArcs.{plain_arc, plain_meaning, graph_arc, run_at, arrival, no_arc, pattern_call}
-use Rattle.plain_graph.specs.Simulation.{step_of, WalksAreJourneys, HasPlainWalk, JourneysAreWalks, ArcsAreSteps, HasArcBy, IsNoWait, StepsAreArcs}
-use Rattle.plain_graph.specs.inside.OutArcs.{IsArcFrom, IsRideFrom, IsOut, out_of, place_of}
-use Rattle.plain_graph.specs.Rides.{takes, alights_within}
-use Rattle.plain_graph.specs.Lawful.{node_of, plain_lawful}
+use Rattle.plan_base.proofs.Common.{◌≡◌, ℕ, ◌++◌, ◌∷◌, [], ◌∙◌, ◌≤◌, ◌<◌, List, length, Option, Some, None, refl, ap, sym, subst, arith, option_to_list, option_map, slice_index_or, get_or_default, slice_get-get_or, slice_get_within, get_or_from_slice_get}
+use Rattle.search_laws.specs.{wait, arc, IsWalk, word_from}
+use Rattle.timetable_arcs.specs.{Call, Instance, Ride as RideCalls, TripLists, IsRunOf, IsRide, arrival_of, departure_of, TableLists, IsIn, IsAlike, AreAlike, trip_at, pattern_trip, call_of, departs, arrives, no_trip, no_call, IsRideAt, IsTable}
+use Rattle.timetable_arcs.proofs.{TableLemmas.next_first, TableLemmas.next_none, TableLemmas.trip_of_run, TripLemmas.known_stops, RunLemmas.within_patterns}
+use Rattle.mode_network.specs.{Arc, Step, Wait, Link as TakeLink, Stand as StandStill, Ride as TakeRide, stop_node, IsNetwork, IsTimetableOf, Leads, IsStep, declared.steps.Step.TheVariants.Road as TakeRoad, NetworkLists.NetworkLists}
+use Rattle.plain_graph.specs.{PlainArc, Road, Link, Stand, Ride, plain_arc, plain_meaning, graph_arc, run_at, arrival, no_arc, pattern_call, step_of, WalksAreJourneys, HasPlainWalk, JourneysAreWalks, ArcsAreSteps, HasArcBy, IsNoWait, StepsAreArcs, takes, alights_within, node_of, plain_lawful, inside.IsArcFrom, inside.IsRideFrom, inside.IsOut, inside.out_of, inside.place_of}
 use Rattle.mode_network.proofs.RuleLemmas.{some_is}
 
 abbrev arc_of : ℕ → ℕ → ℕ → Arc

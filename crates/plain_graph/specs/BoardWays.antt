@@ -1,15 +1,8 @@
 -- The arcs out of a stop that can be taken at a time, board by board.
-use Rattle.std.specs.Prelude.{ℕ, ◌+◌, ◌*◌, List, [], ◌∷◌, Option, Some, None, drop, slice_index, slice_index_or, if◌then◌else◌}
-use Rattle.std.specs.List.{flat_map}
-use Rattle.search_laws.specs.Fresh.{RunRides}
-use Rattle.search_laws.specs.Ways.{is_open}
-use Rattle.search_laws.specs.declared.graph.Way.{Way}
-use Rattle.timetable_arcs.specs.declared.trips.Call.{Call}
-use Rattle.timetable_arcs.specs.declared.trips.Instance.{Instance}
-use Rattle.timetable_arcs.specs.declared.rides.Board.{Board}
-use Rattle.timetable_arcs.specs.Patterns.{TableLists, trip_at, runs_of, pattern_trip, no_run, next_run, arrives}
-use Rattle.timetable_arcs.specs.Rides.{alights}
-use Rattle.mode_network.specs.NetworkLists.{NetworkLists, stop_node}
+use Rattle.std.specs.Prelude.{ℕ, ◌+◌, ◌*◌, List, [], ◌∷◌, Option, Some, None, drop, slice_index, slice_index_or, if◌then◌else◌, flat_map}
+use Rattle.search_laws.specs.{RunRides, is_open, Way}
+use Rattle.timetable_arcs.specs.{Call, Instance, Board, TableLists, trip_at, runs_of, pattern_trip, no_run, next_run, arrives, alights}
+use Rattle.mode_network.specs.{NetworkLists.NetworkLists, stop_node}
 use Rattle.plain_graph.specs.PlainArcs.{pattern_call}
 
 -- the ride of a run to a call, as the arc at a place

@@ -1,30 +1,15 @@
 -- A network is a lawful graph.
-use Rattle.std.proofs.Common.{◌≡◌, ℕ, ◌+◌, ◌^◌, ◌<◌, ◌≤◌, ◌++◌, ◌&&◌, nat_le, nat_lt, length, length-append, Option, Some, None, ◌∙◌, refl, ap, sym, subst, arith}
-use Rattle.std.specs.Prelude.{IfSome, option_map}
+use Rattle.std.specs.Prelude.{◌≡◌, ℕ, ◌+◌, ◌^◌, ◌<◌, ◌≤◌, ◌++◌, ◌&&◌, nat_le, nat_lt, length, Option, Some, None, refl, IfSome, option_map}
+use Rattle.std.proofs.Common.{length-append, ◌∙◌, ap, sym, subst, arith}
 use Rattle.std.proofs.Props.{props}
 use Rattle.std.specs.List.{list_all}
 use Rattle.std.proofs.lemmas.Bool.{leb-true}
-use Rattle.search_laws.specs.Letters.{IsLetter}
-use Rattle.search_laws.specs.GraphLaws.{GraphMeaning, IsLawfulGraph}
-use Rattle.timetable_arcs.specs.declared.trips.Instance.{Instance}
-use Rattle.timetable_arcs.specs.declared.rides.Ride.{Ride as RideCalls}
-use Rattle.timetable_arcs.specs.Patterns.{TableLists, arrives, pattern_trip, no_call}
-use Rattle.timetable_arcs.specs.Trips.{TripLists}
-use Rattle.timetable_arcs.specs.TripRules.{is_early}
-use Rattle.timetable_arcs.proofs.TripLemmas.{IsKeptTrip, known_stops}
-use Rattle.timetable_arcs.specs.Rides.{IsRideAt}
-use Rattle.timetable_arcs.specs.Table.{IsTable}
-use Rattle.timetable_arcs.proofs.TableLemmas.{arrives_small, next_rises, next_stays, trip_of_pattern}
-use Rattle.mode_network.specs.declared.nodes.Arc.{Arc}
-use Rattle.mode_network.specs.NetworkLists.{NetworkLists, nodes_of, letter_at}
-use Rattle.mode_network.specs.Rules.{IsNetwork}
-use Rattle.mode_network.specs.Timetables.{IsTimetableOf}
+use Rattle.search_laws.specs.{IsLetter, GraphMeaning, IsLawfulGraph}
+use Rattle.timetable_arcs.specs.{Instance, Ride as RideCalls, TableLists, arrives, pattern_trip, no_call, TripLists, is_early, IsRideAt, IsTable}
+use Rattle.timetable_arcs.proofs.{TripLemmas.IsKeptTrip, TripLemmas.known_stops, TableLemmas.arrives_small, TableLemmas.next_rises, TableLemmas.next_stays, TableLemmas.trip_of_pattern}
+use Rattle.mode_network.specs.{Arc, nodes_of, letter_at, IsNetwork, IsTimetableOf, NetworkLists.NetworkLists}
 use Rattle.mode_network.proofs.RuleLemmas.{both, some_is, links_in_range, arcs_in_range, letter_is_road, nodes_hold_roads}
-use Rattle.plain_graph.specs.declared.plain.PlainArc.{PlainArc}
-use Rattle.plain_graph.specs.declared.plain.PlainArc.TheVariants.{Road, Link, Stand, Ride}
-use Rattle.plain_graph.specs.PlainArcs.{pattern_call, plain_arc, plain_meaning, graph_arc, run_at, arrival, no_arc}
-use Rattle.plain_graph.specs.inside.OutArcs.{IsOut, out_of}
-use Rattle.plain_graph.specs.Rides.{alights_within, rides_on, takes}
+use Rattle.plain_graph.specs.{declared.plain.PlainArc.PlainArc, declared.plain.PlainArc.TheVariants.Road, declared.plain.PlainArc.TheVariants.Link, declared.plain.PlainArc.TheVariants.Stand, declared.plain.PlainArc.TheVariants.Ride, PlainArcs.pattern_call, PlainArcs.plain_arc, PlainArcs.plain_meaning, PlainArcs.graph_arc, PlainArcs.run_at, PlainArcs.arrival, PlainArcs.no_arc, inside.OutArcs.IsOut, inside.OutArcs.out_of, Rides.alights_within, Rides.rides_on, Rides.takes}
 
 -- there is one proof at most that a graph is lawful
 pub IsLawfulGraph-prop : (g : GraphMeaning) → IsProp (IsLawfulGraph g)

@@ -1,18 +1,10 @@
 -- The arcs of a network as a graph: out of each node its road arcs, its links, at a road node one that stands, and at a stop
 -- the rides that begin there.
 use Rattle.std.specs.Prelude.{ℕ, ◌+◌, ◌-◌, List, [], length, nat_lt, is_some, Option, Some, None, option_map, if◌then◌else◌, slice_index_or}
-use Rattle.search_laws.specs.GraphLaws.{GraphMeaning}
-use Rattle.search_laws.specs.declared.graph.GraphArc.{GraphArc}
-use Rattle.timetable_arcs.specs.declared.trips.Call.{Call}
-use Rattle.timetable_arcs.specs.declared.trips.Instance.{Instance}
-use Rattle.timetable_arcs.specs.declared.rides.Ride.{Ride as RideCalls}
-use Rattle.timetable_arcs.specs.Patterns.{TableLists, pattern_trip, next_run, arrives, no_call}
-use Rattle.timetable_arcs.specs.Rides.{rides_at}
-use Rattle.mode_network.specs.declared.nodes.Arc.{Arc}
-use Rattle.mode_network.specs.NetworkLists.{NetworkLists, nodes_of, letter_at, stop_at, stop_node}
-use Rattle.mode_network.specs.Indexes.{range_from}
-use Rattle.plain_graph.specs.declared.plain.PlainArc.{PlainArc}
-use Rattle.plain_graph.specs.declared.plain.PlainArc.TheVariants.{Road, Link, Stand, Ride}
+use Rattle.search_laws.specs.{GraphMeaning, GraphArc}
+use Rattle.timetable_arcs.specs.{Call, Instance, Ride as RideCalls, TableLists, pattern_trip, next_run, arrives, no_call, rides_at}
+use Rattle.mode_network.specs.{Arc, nodes_of, letter_at, stop_at, stop_node, range_from, NetworkLists.NetworkLists}
+pub use Rattle.plain_graph.specs.{declared.plain.PlainArc.PlainArc, declared.plain.PlainArc.TheVariants.Road, declared.plain.PlainArc.TheVariants.Link, declared.plain.PlainArc.TheVariants.Stand, declared.plain.PlainArc.TheVariants.Ride}
 
 -- how many arcs of a list begin at a node
 abbrev pub count_from : List Arc → ℕ → ℕ

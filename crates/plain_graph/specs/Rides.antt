@@ -1,15 +1,9 @@
 -- What is true of the ride that an arc stands for.
-use Rattle.std.proofs.Common.{◌≡◌, ℕ, ◌<◌, ◌≤◌, length, Some, arith}
-use Rattle.std.specs.Prelude.{slice_index_or}
-use Rattle.timetable_arcs.specs.declared.trips.Instance.{Instance}
-use Rattle.timetable_arcs.specs.declared.rides.Ride.{Ride}
-use Rattle.timetable_arcs.specs.Patterns.{TableLists, IsIn, trip_at, pattern_trip, departs, arrives}
-use Rattle.timetable_arcs.specs.Rides.{rides_at, IsRideAt}
-use Rattle.timetable_arcs.specs.Table.{IsTable}
+use Rattle.std.specs.Prelude.{◌≡◌, ℕ, ◌<◌, ◌≤◌, length, Some, slice_index_or}
+use Rattle.std.proofs.Common.{arith}
+use Rattle.timetable_arcs.specs.{Instance, Ride, TableLists, IsIn, trip_at, pattern_trip, departs, arrives, rides_at, IsRideAt, IsTable}
 use Rattle.timetable_arcs.proofs.TableLemmas.{never_back, next_is}
-use Rattle.plain_graph.specs.declared.plain.PlainArc.{PlainArc}
-use Rattle.plain_graph.specs.declared.plain.PlainArc.TheVariants.{Road as RoadArc, Link as LinkArc, Stand as StandArc, Ride as RideArc}
-use Rattle.plain_graph.specs.PlainArcs.{run_at, no_ride}
+use Rattle.plain_graph.specs.{declared.plain.PlainArc.PlainArc, declared.plain.PlainArc.TheVariants.Road as RoadArc, declared.plain.PlainArc.TheVariants.Link as LinkArc, declared.plain.PlainArc.TheVariants.Stand as StandArc, declared.plain.PlainArc.TheVariants.Ride as RideArc, PlainArcs.run_at, PlainArcs.no_ride}
 
 -- a ride along a pattern, from some stop
 pub record IsRideOf (t : TableLists) (ride : Ride) : Type 0 where

@@ -1,16 +1,9 @@
 -- The walks of the graph of a network are its journeys.
 use Rattle.std.specs.Prelude.{◌≡◌, ℕ, ◌≤◌, List, Option, Some, option_map}
-use Rattle.search_laws.specs.GraphLaws.{HasArc}
-use Rattle.search_laws.specs.Walks.{WalkStep, IsWalk, word_from}
-use Rattle.timetable_arcs.specs.declared.trips.Instance.{Instance}
-use Rattle.timetable_arcs.specs.Patterns.{TableLists}
-use Rattle.mode_network.specs.declared.steps.Step.{Step}
-use Rattle.mode_network.specs.declared.steps.Step.TheVariants.{Wait, Road as TakeRoad, Link as TakeLink, Stand as StandStill, Ride as TakeRide}
-use Rattle.mode_network.specs.NetworkLists.{NetworkLists}
-use Rattle.mode_network.specs.Journeys.{IsStep, AreSteps}
-use Rattle.plain_graph.specs.declared.plain.PlainArc.{PlainArc}
-use Rattle.plain_graph.specs.declared.plain.PlainArc.TheVariants.{Road, Link, Stand, Ride}
-use Rattle.plain_graph.specs.PlainArcs.{plain_meaning, run_at}
+use Rattle.search_laws.specs.{HasArc, WalkStep, IsWalk, word_from}
+use Rattle.timetable_arcs.specs.{Instance, TableLists}
+use Rattle.mode_network.specs.{Step, Wait, Link as TakeLink, Stand as StandStill, Ride as TakeRide, IsStep, AreSteps, declared.steps.Step.TheVariants.Road as TakeRoad, NetworkLists.NetworkLists}
+use Rattle.plain_graph.specs.{declared.plain.PlainArc.PlainArc, declared.plain.PlainArc.TheVariants.Road, declared.plain.PlainArc.TheVariants.Link, declared.plain.PlainArc.TheVariants.Stand, declared.plain.PlainArc.TheVariants.Ride, PlainArcs.plain_meaning, PlainArcs.run_at}
 
 -- the step of a journey that takes the arc at a time; none where no run makes the ride any more
 abbrev pub step_of : TableLists → ℕ → PlainArc → Option Step

@@ -50,7 +50,7 @@ struct PlacedBoard {
 }
 
 impl<'a> Plain<'a> {
-    ghost use Rattle.std.specs.Prelude.{◌≡◌, ℕ, ◌<◌, ◌+◌, ◌^◌, ◌++◌, ◌∷◌, true, [], All, OnOk, IfOk, IfSome, IsTrue, length, Some, option_map, slice_get, if◌then◌else◌};
+    ghost use Rattle.std.specs.Prelude.{◌≡◌, ℕ, ◌<◌, ◌+◌, ◌^◌, ◌++◌, ◌∷◌, [], All, OnOk, IfOk, IfSome, IsTrue, length, Some, option_map, slice_get, if◌then◌else◌};
     ghost use Rattle.timetable_arcs.specs.Rides.{boards_at};
     ghost use Rattle.timetable_arcs.proofs.RideLemmas.{IsBoardOf};
     ghost use Rattle.search_laws.specs.Ways.{ways_from};

@@ -1,11 +1,9 @@
 -- The laws of reading line by line, for every kind of lines and of places.
-use Rattle.std.proofs.Common.{◌≡◌, ℕ, List, [], ◌∷◌, ◌++◌, length, map, refl, ap, sym, ◌∙◌, subst, ◌<◌, ◌+◌, arith, Bool, true, false, cond, ◌⊎◌, inl, inr}
-use Rattle.std.specs.Prelude.{Option, Some, None}
+use Rattle.std.proofs.Common.{◌≡◌, ℕ, List, [], ◌∷◌, ◌++◌, length, map, refl, ap, sym, ◌∙◌, subst, ◌<◌, ◌+◌, arith, Bool, true, false, cond, ◌⊎◌, inl, inr, Option, Some, None}
 use Rattle.std.specs.List.{AllByRecursion}
 use Rattle.std.proofs.lemmas.Bool.{false≢true}
 use Rattle.std.proofs.lemmas.Option.{none-some, same_Some}
-use Rattle.plain_texts.specs.Lines.{pieces, next_line_of}
-use Rattle.plain_texts.specs.Course.{Course, whole, bad, trailing, onto, ended, go_on, lines_from, run_on, CannotStand, BytesFollow, IsFirstBad, IsWhole, IsTrailing}
+use Rattle.plain_texts.specs.{pieces, next_line_of, whole, bad, trailing, onto, ended, go_on, lines_from, run_on, CannotStand, BytesFollow, IsFirstBad, IsWhole, IsTrailing, Course.Course}
 use Rattle.plain_texts.proofs.Pieces.{pieces_some, pieces_none, pieces_cons, pieces_more}
 
 whole_is : {L : Type 0} (ls ks : List L) → ◌≡◌ {A = Course L} (whole ls) (whole ks) → ls ≡ ks

@@ -1,14 +1,10 @@
 -- The two laws of decimal numbers: what is read is spelled so, and what is spelled so is read.
-use Rattle.std.proofs.Common.{◌≡◌, ℕ, List, [], ◌∷◌, ◌++◌, refl, ap, sym, ◌∙◌, subst, ◌<◌, ◌≤◌, ◌+◌, ◌*◌, ◌^◌, ◌/◌, ◌%◌, arith, cond}
-use Rattle.std.specs.Prelude.{Some, None, fold, decimal, nat_eq, nat_le, nat_lt, ◌||◌}
+use Rattle.std.proofs.Common.{◌≡◌, ℕ, List, [], ◌∷◌, ◌++◌, refl, ap, sym, ◌∙◌, subst, ◌<◌, ◌≤◌, ◌+◌, ◌*◌, ◌^◌, ◌/◌, ◌%◌, arith, cond, Some, None, fold, decimal, nat_eq, nat_le, nat_lt, ◌||◌}
 use Rattle.std.proofs.lemmas.Option.{none-some, cond_some, option_and_then_some}
 use Rattle.std.proofs.lemmas.Fmt.{decimal_digit, decimal_step_wide, decimal_by_steps_wide}
 use Rattle.std.proofs.lemmas.Bool.Decides.{nat_tests}
-use Rattle.plain_texts.specs.Reading.{IsReadBy}
-use Rattle.plain_texts.specs.Digits.{more, digit_of}
-use Rattle.plain_texts.specs.Numbers.{number_step, digits_at, number_at}
-use Rattle.plain_texts.proofs.Digits.{fold_takes, fold_first, fold_push, digit_takes, digit_again}
-use Rattle.plain_texts.proofs.Reading.{read_by_laws}
+use Rattle.plain_texts.specs.{IsReadBy, more, digit_of, number_step, digits_at, number_at}
+use Rattle.plain_texts.proofs.{Digits.fold_takes, Digits.fold_first, Digits.fold_push, Digits.digit_takes, Digits.digit_again, Reading.read_by_laws}
 
 -- what a step has taken
 record Stepped (below v b w : ℕ) : Type 0 where

@@ -1,11 +1,9 @@
 -- Laws of reading digit by digit, for any step.
-use Rattle.std.proofs.Common.{◌≡◌, ℕ, List, [], ◌∷◌, ◌++◌, refl, ap, sym, ◌∙◌, subst, append_assoc, ◌<◌, ◌+◌, arith}
-use Rattle.std.specs.Prelude.{Option, Some, None, fold}
-use Rattle.std.proofs.lemmas.List.{append-nil}
+use Rattle.std.proofs.Common.{◌≡◌, ℕ, List, [], ◌∷◌, ◌++◌, refl, ap, sym, ◌∙◌, subst, append_assoc, ◌<◌, ◌+◌, arith, Option, Some, None, fold, append-nil}
 use Rattle.std.proofs.lemmas.List.Sums.{fold-append}
 use Rattle.std.proofs.lemmas.Option.{none-some, same_Some}
 use Rattle.std.proofs.lemmas.Bool.Decides.{nat_tests}
-use Rattle.plain_texts.specs.Digits.{more, digit_of}
+use Rattle.plain_texts.specs.{more, digit_of}
 
 module _ (step : ℕ → ℕ → Option ℕ) where
   -- a text that was refused stays refused

@@ -1,16 +1,12 @@
 -- The laws of the escape: the code of a byte ends at the second `%`, so no two ids have one name.
-use Rattle.std.proofs.Common.{◌≡◌, ℕ, List, [], ◌∷◌, ◌++◌, length, refl, ap, sym, ◌∙◌, subst, ◌<◌, ◌≤◌, ◌*◌, ◌^◌, ◌/◌, ◌%◌, arith, ◌⊎◌, inl, inr, append_assoc, Bool, true, false}
-use Rattle.std.specs.Prelude.{Some, None, nat_eq, codes}
-use Rattle.std.specs.List.{All, list_all, flat_map, slice_split}
+use Rattle.std.proofs.Common.{◌≡◌, ℕ, List, [], ◌∷◌, ◌++◌, length, refl, ap, sym, ◌∙◌, subst, ◌<◌, ◌≤◌, ◌*◌, ◌^◌, ◌/◌, ◌%◌, arith, ◌⊎◌, inl, inr, append_assoc, Bool, true, false, Some, None, nat_eq, codes, All, flat_map, length-append}
+use Rattle.std.specs.List.{list_all, slice_split}
 use Rattle.std.proofs.lemmas.Bool.{cases_lt, cases_eq, cases_Bool, and_from, cond-true}
 use Rattle.std.proofs.lemmas.Bool.Decides.{nat_tests}
-use Rattle.std.proofs.lemmas.List.{length-append}
 use Rattle.std.proofs.lemmas.List.Elements.{All-nil, All-cons}
 use Rattle.std.proofs.lemmas.List.Folds.{list_all-append}
 use Rattle.std.proofs.lemmas.List.Splits.{slice_split_at}
-use Rattle.plain_texts.specs.Names.{is_name, is_name_byte, name_of}
-use Rattle.plain_texts.specs.Hexadecimal.{glyph, hexadecimal, hexadecimal_at}
-use Rattle.plain_texts.specs.Escape.{is_plain, code_of, escaped_byte, escaped}
+use Rattle.plain_texts.specs.{is_name, is_name_byte, name_of, glyph, hexadecimal, hexadecimal_at, is_plain, code_of, escaped_byte, escaped}
 use Rattle.plain_texts.proofs.Hexadecimal.{hexadecimal_again, hexadecimal_last, hexadecimal-zero}
 
 is_percent : ℕ → Bool

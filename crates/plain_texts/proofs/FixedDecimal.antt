@@ -1,15 +1,10 @@
 -- The two laws of fields of fixed width.
-use Rattle.std.proofs.Common.{◌≡◌, ℕ, zero, suc, List, [], ◌∷◌, ◌++◌, length, refl, ap, sym, ◌∙◌, subst, ◌<◌, ◌+◌, ◌-◌, ◌*◌, ◌^◌, ◌/◌, ◌%◌, arith, length-append, append_assoc}
-use Rattle.std.specs.Prelude.{Some, fold, nat_lt}
+use Rattle.std.proofs.Common.{◌≡◌, ℕ, zero, suc, List, [], ◌∷◌, ◌++◌, length, refl, ap, sym, ◌∙◌, subst, ◌<◌, ◌+◌, ◌-◌, ◌*◌, ◌^◌, ◌/◌, ◌%◌, arith, length-append, append_assoc, Some, fold, nat_lt, append-nil}
 use Rattle.std.proofs.Math.Nat.{pow-succ'}
-use Rattle.std.proofs.lemmas.List.{append-nil}
 use Rattle.std.proofs.lemmas.Option.{cond_some, option_and_then_some}
 use Rattle.std.proofs.lemmas.Bool.Decides.{nat_tests}
-use Rattle.plain_texts.specs.Reading.{IsReadBy}
-use Rattle.plain_texts.specs.Digits.{more, digit_of}
-use Rattle.plain_texts.specs.FixedDecimal.{IsFixed, fixed_decimal, fixed_step, fixed_at}
-use Rattle.plain_texts.proofs.Digits.{fold_takes, fold_push, digit_takes, digit_again}
-use Rattle.plain_texts.proofs.Reading.{read_by_laws}
+use Rattle.plain_texts.specs.{IsReadBy, more, digit_of, IsFixed, fixed_decimal, fixed_step, fixed_at}
+use Rattle.plain_texts.proofs.{Digits.fold_takes, Digits.fold_push, Digits.digit_takes, Digits.digit_again, Reading.read_by_laws}
 
 pub fixed_decimal-zero : (n : ℕ) → fixed_decimal 0 n ≡ []
 unfolding fixed_decimal

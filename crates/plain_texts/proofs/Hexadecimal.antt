@@ -1,17 +1,13 @@
 -- The two laws of hexadecimal numbers.
-use Rattle.std.proofs.Common.{◌≡◌, ℕ, zero, suc, List, [], ◌∷◌, ◌++◌, map, refl, ap, sym, ◌∙◌, subst, ◌<◌, ◌≤◌, ◌+◌, ◌*◌, ◌^◌, ◌/◌, ◌%◌, arith, ◌⊎◌, inl, inr, append_assoc}
-use Rattle.std.specs.Prelude.{Some, fold, nat_lt}
+use Rattle.std.proofs.Common.{◌≡◌, ℕ, zero, suc, List, [], ◌∷◌, ◌++◌, map, refl, ap, sym, ◌∙◌, subst, ◌<◌, ◌≤◌, ◌+◌, ◌*◌, ◌^◌, ◌/◌, ◌%◌, arith, ◌⊎◌, inl, inr, append_assoc, Some, fold, nat_lt, append-nil}
 use Rattle.std.specs.Int.Digits.{digits_of}
 use Rattle.std.proofs.lemmas.Int.Digits.{digits_of_step}
-use Rattle.std.proofs.lemmas.List.{append-nil, map-append}
+use Rattle.std.proofs.lemmas.List.{map-append}
 use Rattle.std.proofs.lemmas.Option.{none-some, cond_some, option_and_then_some}
 use Rattle.std.proofs.lemmas.Bool.{cases_lt}
 use Rattle.std.proofs.lemmas.Bool.Decides.{nat_tests}
-use Rattle.plain_texts.specs.Reading.{IsReadBy}
-use Rattle.plain_texts.specs.Digits.{more}
-use Rattle.plain_texts.specs.Hexadecimal.{IsHexadecimal, glyph, hexadecimal, hexadecimal_digit_of, hexadecimal_step, first_hexadecimal, hexadecimal_at}
-use Rattle.plain_texts.proofs.Digits.{fold_takes, fold_first, fold_push}
-use Rattle.plain_texts.proofs.Reading.{read_by_laws}
+use Rattle.plain_texts.specs.{IsReadBy, more, IsHexadecimal, glyph, hexadecimal, hexadecimal_digit_of, hexadecimal_step, first_hexadecimal, hexadecimal_at}
+use Rattle.plain_texts.proofs.{Digits.fold_takes, Digits.fold_first, Digits.fold_push, Reading.read_by_laws}
 
 -- The last digit comes last. 0 has no digits.
 pub hexadecimal-zero : hexadecimal 0 ≡ []

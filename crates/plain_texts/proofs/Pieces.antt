@@ -1,14 +1,12 @@
 -- Lines of a text: how its pieces are taken off one by one, and how the text is made of them. Words of a line: how
 -- they are found from the left.
-use Rattle.std.proofs.Common.{◌≡◌, ℕ, List, [], ◌∷◌, ◌++◌, length, take, drop, get_or, refl, ap, sym, ◌∙◌, subst, ◌<◌, ◌≤◌, ◌+◌, arith, Bool, true, false, cond, append_assoc, length-take, get_or-take, ◌-◌, length-drop, get_or-drop}
-use Rattle.std.specs.Prelude.{Option, Some, None, option_map, unwrap_or, nat_lt, position, MatchOption}
-use Rattle.std.specs.List.{slice_split, onto_first, join_with_byte, slice_range, position_or_len, before_first, after_first, AllByRecursion}
+use Rattle.std.proofs.Common.{◌≡◌, ℕ, List, [], ◌∷◌, ◌++◌, length, take, drop, get_or, refl, ap, sym, ◌∙◌, subst, ◌<◌, ◌≤◌, ◌+◌, arith, Bool, true, false, cond, append_assoc, length-take, get_or-take, ◌-◌, length-drop, get_or-drop, Option, Some, None, option_map, unwrap_or, nat_lt, position, MatchOption, slice_range, append-nil, drop-drop}
+use Rattle.std.specs.List.{slice_split, onto_first, join_with_byte, position_or_len, before_first, after_first, AllByRecursion}
 use Rattle.std.proofs.lemmas.Bool.Decides.{nat_tests}
-use Rattle.std.proofs.lemmas.List.{append-nil, drop-drop}
 use Rattle.std.proofs.lemmas.List.Splits.{slice_split_none, slice_split_at, slice_split_first, join_with_byte-slice_split}
 use Rattle.std.proofs.lemmas.List.Sums.{split_at_first, fails_before_first, passes_at_first, position_or_len_is}
 use Rattle.std.proofs.lemmas.Option.{none-some, same_Some, cond_some, some_pair_parts}
-use Rattle.plain_texts.specs.Lines.{is_feed, is_space, words_of, pieces, lines_of_pieces, lines_of, IsLine, lines_text, next_line_of, around, split_line_of}
+use Rattle.plain_texts.specs.{is_feed, is_space, words_of, pieces, lines_of_pieces, lines_of, IsLine, lines_text, next_line_of, around, split_line_of}
 
 -- what next_line takes off
 record Cut (text line rest : List ℕ) : Type 0 where

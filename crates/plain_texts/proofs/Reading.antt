@@ -1,7 +1,6 @@
 -- What a reader of one spelling is made of: its two laws.
-use Rattle.std.proofs.Common.{◌≡◌, refl}
-use Rattle.std.specs.Prelude.{Option, Some, None, IfSome}
-use Rattle.plain_texts.specs.Reading.{IsReadBy}
+use Rattle.std.proofs.Common.{◌≡◌, refl, Option, Some, None, IfSome}
+use Rattle.plain_texts.specs.{IsReadBy}
 
 -- Where what is read is spelled so, and what is spelled so is read, the reader is exact.
 pub read_by_laws : {X T : Type 0} (spell : X → T) (Allowed : X → Type 0) (text : T) (r : Option X) → ((x : X) → r ≡ Some x → Allowed x × (text ≡ spell x)) → ((x : X) → Allowed x → text ≡ spell x → r ≡ Some x) → IsReadBy spell Allowed text r

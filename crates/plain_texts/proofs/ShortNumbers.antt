@@ -1,16 +1,13 @@
 -- Where a number has few digits, it is read without a bound, and the bound is tested once behind the last digit.
-use Rattle.std.proofs.Common.{◌≡◌, ℕ, zero, suc, List, [], ◌∷◌, refl, ap, sym, ◌∙◌, ◌<◌, ◌≤◌, ◌+◌, ◌*◌, ◌^◌, arith, Bool, true, false, cond, length, take, get_or, ◌≢◌}
-use Rattle.std.specs.Prelude.{Option, Some, None, fold, nat_eq, nat_le, nat_lt, ◌||◌, option_and_then, option_map, slice_index}
+use Rattle.std.proofs.Common.{◌≡◌, ℕ, zero, suc, List, [], ◌∷◌, refl, ap, sym, ◌∙◌, ◌<◌, ◌≤◌, ◌+◌, ◌*◌, ◌^◌, arith, Bool, true, false, cond, length, take, get_or, ◌≢◌, Option, Some, None, fold, nat_eq, nat_le, nat_lt, ◌||◌, option_and_then, option_map, slice_index}
 use Rattle.std.proofs.Math.Nat.{pow-le-pow_right}
 use Rattle.std.proofs.lemmas.Fmt.{length-decimal-le_wide}
 use Rattle.std.proofs.lemmas.Grind.{pow_more}
 use Rattle.std.proofs.lemmas.List.Folds.{fold_stuck}
 use Rattle.std.proofs.lemmas.Option.{none-some, same_Some}
 use Rattle.std.proofs.lemmas.Bool.Decides.{nat_tests}
-use Rattle.plain_texts.specs.Digits.{more, digit_of}
-use Rattle.plain_texts.specs.Numbers.{number_step, number_at, value_step, value_at}
-use Rattle.plain_texts.proofs.Digits.{fold_none, fold_takes, digit_takes}
-use Rattle.plain_texts.proofs.Decimal.{number_takes}
+use Rattle.plain_texts.specs.{more, digit_of, number_step, number_at, value_step, value_at}
+use Rattle.plain_texts.proofs.{Digits.fold_none, Digits.fold_takes, Digits.digit_takes, Decimal.number_takes}
 
 -- A byte that is no digit ends the reading.
 pub value_stops : (ds : List ℕ) (i v : ℕ) → i < length ds → value_at (take i ds) ≡ Some v → digit_of (get_or ds i 0) ≡ None → None ≡ value_at ds

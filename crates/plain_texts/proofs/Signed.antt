@@ -1,13 +1,10 @@
 -- The two laws of signed numbers.
-use Rattle.std.proofs.Common.{◌≡◌, ℕ, zero, suc, List, [], ◌∷◌, refl, ap, sym, ◌∙◌, subst, ◌<◌, ◌≤◌, ◌+◌, ◌^◌, arith, Bool, true, false, cond, ℤ, pos, negsuc}
-use Rattle.std.specs.Prelude.{Option, Some, None, option_and_then, option_map, decimal, unsigned_abs, ◌==◌}
+use Rattle.std.proofs.Common.{◌≡◌, ℕ, zero, suc, List, [], ◌∷◌, refl, ap, sym, ◌∙◌, subst, ◌<◌, ◌≤◌, ◌+◌, ◌^◌, arith, Bool, true, false, cond, ℤ, pos, negsuc, Option, Some, None, option_and_then, option_map, decimal, unsigned_abs, ◌==◌}
 use Rattle.std.specs.Fmt.{signed_decimal}
 use Rattle.std.proofs.lemmas.Option.{none-some, same_Some, option_and_then_some}
 use Rattle.std.proofs.lemmas.Bool.Decides.{nat_tests}
-use Rattle.plain_texts.specs.Reading.{IsReadBy}
-use Rattle.plain_texts.specs.Numbers.{number_at, minus, signed_at}
-use Rattle.plain_texts.proofs.Reading.{read_by_laws}
-use Rattle.plain_texts.proofs.Decimal.{number_takes, number_again, first_digit}
+use Rattle.plain_texts.specs.{IsReadBy, number_at, minus, signed_at}
+use Rattle.plain_texts.proofs.{Reading.read_by_laws, Decimal.number_takes, Decimal.number_again, Decimal.first_digit}
 
 -- what a minus before a number gives
 minus_takes : (n : ℕ) (z : ℤ) → minus n ≡ Some z → (unsigned_abs z ≡ n) × (45 ∷ decimal n ≡ signed_decimal z)

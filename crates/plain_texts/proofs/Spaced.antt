@@ -1,6 +1,5 @@
 -- Words of a line: a line is cut at its spaces and joined by spaces, without loss either way.
-use Rattle.std.proofs.Common.{◌≡◌, ℕ, suc, List, [], ◌∷◌, refl, ap, ◌∙◌, ◌<◌, ◌+◌, ◌%◌, ◌^◌, arith, Bool, true, false, ℤ, pos, negsuc}
-use Rattle.std.specs.Prelude.{◌&&◌, Result, Ok, Err, IfOk, map, decimal, unsigned_abs, nat_lt}
+use Rattle.std.proofs.Common.{◌≡◌, ℕ, suc, List, [], ◌∷◌, refl, ap, ◌∙◌, ◌<◌, ◌+◌, ◌%◌, ◌^◌, arith, Bool, true, false, ℤ, pos, negsuc, ◌&&◌, Result, Ok, Err, IfOk, map, decimal, unsigned_abs, nat_lt}
 use Rattle.std.specs.Fmt.{signed_decimal}
 use Rattle.std.specs.List.{AllByRecursion, list_all}
 use Rattle.std.proofs.lemmas.Bool.Decides.{nat_tests}
@@ -9,9 +8,7 @@ use Rattle.std.proofs.lemmas.List.Sums.{AllPass-from_list_all}
 use Rattle.std.proofs.lemmas.Fmt.{decimal_by_steps_wide}
 use Rattle.std.proofs.lemmas.List.Splits.{slice_split_none, slice_split_at, join_with_byte-slice_split}
 use Rattle.std.proofs.lemmas.List.Elements.{All-nil, All-cons, All-push, All-append, All-weaker}
-use Rattle.plain_texts.specs.Lines.{is_feed, is_space, IsLine, IsWord, words_of, spaced}
-use Rattle.plain_texts.specs.Names.{is_name, is_name_byte}
-use Rattle.plain_texts.specs.Hexadecimal.{glyph, hexadecimal, IsHexadecimal}
+use Rattle.plain_texts.specs.{is_feed, is_space, IsLine, IsWord, words_of, spaced, is_name, is_name_byte, glyph, hexadecimal, IsHexadecimal}
 use Rattle.plain_texts.proofs.Hexadecimal.{hexadecimal_by_steps}
 
 -- A line is its words with one space between each two.

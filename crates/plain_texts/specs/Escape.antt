@@ -1,7 +1,6 @@
 -- The escape by which an id of a feed becomes a name. An id is UTF-8, in which a byte below 128 is always a character
 -- of its own, so the rule on characters is one on bytes.
-use Rattle.std.specs.Prelude.{ℕ, List, [], ◌∷◌, ◌++◌, Bool, ◌&&◌, not, nat_lt, nat_eq, codes, if◌then◌else◌}
-use Rattle.std.specs.List.{flat_map}
+use Rattle.std.specs.Prelude.{ℕ, List, [], ◌∷◌, ◌++◌, Bool, ◌&&◌, not, nat_lt, nat_eq, codes, if◌then◌else◌, flat_map}
 use Rattle.plain_texts.specs.Hexadecimal.{hexadecimal}
 
 -- the control characters, the space, `%` and the delete character do not stand for themselves

@@ -1,4 +1,4 @@
-ghost use Rattle.std.specs.Prelude.{◌≡◌, ℕ, ◌++◌, length, IfSome, OnOk};
+ghost use Rattle.std.specs.Prelude.{◌≡◌, ◌++◌, length, IfSome, OnOk};
 ghost use Rattle.plain_texts.specs.Digits.{digit_of, more};
 ghost use Rattle.plain_texts.specs.FixedDecimal.{IsFixed, fixed_at, fixed_decimal, fixed_step};
 ghost use Rattle.plain_texts.specs.Reading.{IsReadBy};

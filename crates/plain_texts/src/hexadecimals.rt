@@ -1,4 +1,4 @@
-ghost use Rattle.std.specs.Prelude.{◌≡◌, ℕ, ◌++◌, ◌^◌, ◌<◌, IfSome, OnOk};
+ghost use Rattle.std.specs.Prelude.{◌≡◌, ◌++◌, ◌<◌, IfSome, OnOk};
 ghost use Rattle.plain_texts.specs.Hexadecimal.{IsHexadecimal, first_hexadecimal, glyph, hexadecimal, hexadecimal_at, hexadecimal_digit_of, hexadecimal_step};
 ghost use Rattle.plain_texts.specs.Digits.{more};
 ghost use Rattle.plain_texts.specs.Reading.{IsReadBy};

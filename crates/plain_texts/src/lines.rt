@@ -1,4 +1,4 @@
-ghost use Rattle.std.specs.Prelude.{◌≡◌, ℕ, ◌+◌, ◌<◌, ◌∷◌, ◌++◌, [], length, position, option_map, IfSome, MatchOption, OnOk};
+ghost use Rattle.std.specs.Prelude.{◌≡◌, ◌+◌, ◌<◌, ◌∷◌, ◌++◌, [], length, position, option_map, IfSome, MatchOption, OnOk};
 ghost use Rattle.plain_texts.specs.Lines.{IsLine, is_feed, lines_of, next_line_of, split_line_of};
 
 use memchr::memchr;

@@ -1,4 +1,4 @@
-ghost use Rattle.std.specs.Prelude.{◌≡◌, ℕ, ◌++◌, ◌^◌, ◌<◌, ◌≤◌, unsigned_abs, ◌≢◌, decimal, length, slice_index, IfSome, MatchBool, OnOk};
+ghost use Rattle.std.specs.Prelude.{◌≡◌, ◌++◌, ◌^◌, ◌<◌, ◌≤◌, unsigned_abs, ◌≢◌, decimal, length, slice_index, IfSome, MatchBool, OnOk};
 ghost use Rattle.std.specs.Fmt.{signed_decimal};
 ghost use Rattle.plain_texts.specs.Digits.{digit_of, more};
 ghost use Rattle.plain_texts.specs.Numbers.{IsId, id_at, number_at, number_step, signed_at, value_at};

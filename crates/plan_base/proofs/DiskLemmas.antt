@@ -1,13 +1,7 @@
 -- What a read gives of a file, and what remains of it.
-use Rattle.std.proofs.Common.{◌≡◌, sym, ap, subst, ◌∙◌, ℕ, ◌+◌, ◌≤◌, List, ◌++◌, length, take, drop, Option, None, Some, length-take-le}
-use Rattle.std.proofs.Math.Seq.{drop-append_seam}
-use Rattle.std.proofs.lemmas.List.{drop-drop}
-use Rattle.std.specs.Prelude.{IfSome, IsSomeAnd, string_bytes}
-use Rattle.std.specs.declared.string.String.{String}
-use Rattle.std.specs.declared.alloc.Global.{Global}
+use Rattle.plan_base.proofs.Common.{◌≡◌, sym, ap, subst, ◌∙◌, ℕ, ◌+◌, ◌≤◌, List, ◌++◌, length, take, drop, Option, None, Some, length-take-le, drop-append_seam, drop-drop, IfSome, IsSomeAnd, string_bytes, String, Global}
 use Rattle.std.specs.Io.KnownBytes.{Consumes}
-use Rattle.plan_base.specs.Disks.{DiskFiles, IsRest}
-use Rattle.plan_base.specs.declared.folder_shelf.Opened.{Opened}
+use Rattle.plan_base.specs.{DiskFiles, IsRest, declared.folder_shelf.Opened.Opened}
 
 -- the rest of the file of a path is that of the path's text
 pub rest_of_path : (told : Option DiskFiles) (name : List ℕ) (from : ℕ) (rest : Option (List ℕ)) (path : Option (String Global)) → IfSome path (λ p. string_bytes p ≡ name)

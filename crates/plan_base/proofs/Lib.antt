@@ -1,3 +1,4 @@
+pub mod Common
 pub mod DiskLemmas
 pub mod MoreRead
 pub mod MoreWritten

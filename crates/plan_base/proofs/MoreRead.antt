@@ -1,6 +1,5 @@
-use Rattle.std.proofs.Common.{◌≡◌, sym, ap, ap₂, subst, ◌∙◌, ℕ, ◌+◌, ◌≤◌, List, ◌++◌, length, take, Option, None, Some, IfSome, IsSomeAnd, length-append, length-take-le}
-use Rattle.std.proofs.Math.Seq.{take-add}
-use Rattle.plan_base.specs.Shelves.{ShelfMeaning, IsLater, Told, AreBytesAt, Gave}
+use Rattle.plan_base.proofs.Common.{◌≡◌, sym, ap, ap₂, subst, ◌∙◌, ℕ, ◌+◌, ◌≤◌, List, ◌++◌, length, take, Option, None, Some, IfSome, IsSomeAnd, length-append, length-take-le, take-add}
+use Rattle.plan_base.specs.{ShelfMeaning, IsLater, Told, AreBytesAt, Gave}
 
 -- these bytes are a front of the file that is held, if one is
 abbrev pub IsFrontOf : List ℕ → Option (List ℕ) → Type 0

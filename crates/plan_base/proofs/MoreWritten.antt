@@ -1,8 +1,6 @@
-use Rattle.std.proofs.Common.{◌≡◌, refl, sym, ap, subst, ◌∙◌, ℕ, ◌+◌, ◌-◌, ◌≤◌, List, ◌++◌, length, take, drop, [], append-nil, Option, None, Some, arith, append_assoc, length-drop}
-use Rattle.std.proofs.Math.Seq.{take-add}
-use Rattle.std.proofs.lemmas.List.{drop-drop}
-use Rattle.std.specs.Prelude.{IfSome, OnErr, Result, Ok, Err}
-use Rattle.plan_base.specs.Sinks.{SinkMeaning, Appended, AppendedPart, Stays}
+use Rattle.plan_base.proofs.Common.{◌≡◌, refl, sym, ap, subst, ◌∙◌, ℕ, ◌+◌, ◌-◌, ◌≤◌, List, ◌++◌, length, take, drop, [], append-nil, Option, None, Some, arith, append_assoc, length-drop, take-add, drop-drop, IfSome, Result, Ok, Err}
+use Rattle.std.proofs.Common.{OnErr}
+use Rattle.plan_base.specs.{SinkMeaning, Appended, AppendedPart, Stays}
 
 -- one text appended after another, to bytes that are told or not
 append-append : (a b c : Option (List ℕ)) (x y : List ℕ) → IfSome a (λ s. b ≡ Some (s ++ x)) → IfSome b (λ s. c ≡ Some (s ++ y)) → IfSome a (λ s. c ≡ Some (s ++ (x ++ y)))

@@ -1,6 +1,5 @@
-use Rattle.std.proofs.Common.{◌≡◌, refl, sym, ap₂, ◌∙◌, ℤ, pos, neg_ℤ, Bool, true, false, T, Some, int_le}
-use Rattle.plan_base.specs.declared.places.Place.{Place}
-use Rattle.plan_base.specs.PlaceOf.{shown, place_of}
+use Rattle.plan_base.proofs.Common.{◌≡◌, refl, sym, ap₂, ◌∙◌, ℤ, pos, neg_ℤ, Bool, true, false, T, Some, int_le}
+use Rattle.plan_base.specs.{Place, shown, place_of}
 
 shown_is : (test : Bool) (holds : T test) → shown test ≡ Some holds
 shown_is true holds = refl

@@ -1,7 +1,5 @@
 use Rattle.std.specs.Prelude.{ℕ}
-use Rattle.plan_base.specs.declared.limits.Caps.{Caps}
-use Rattle.plan_base.specs.declared.limits.Kind.{Kind}
-use Rattle.plan_base.specs.declared.limits.Kind.TheVariants.{Nodes, Arcs, Links, Stops, Trips, Calls, OsmNodes, Ways, Refs, Routes, Services, Dates}
+pub use Rattle.plan_base.specs.{declared.limits.Caps.Caps, declared.limits.Kind.Kind, declared.limits.Kind.TheVariants.Nodes, declared.limits.Kind.TheVariants.Arcs, declared.limits.Kind.TheVariants.Links, declared.limits.Kind.TheVariants.Stops, declared.limits.Kind.TheVariants.Trips, declared.limits.Kind.TheVariants.Calls, declared.limits.Kind.TheVariants.OsmNodes, declared.limits.Kind.TheVariants.Ways, declared.limits.Kind.TheVariants.Refs, declared.limits.Kind.TheVariants.Routes, declared.limits.Kind.TheVariants.Services, declared.limits.Kind.TheVariants.Dates}
 
 -- the limit of things of this kind
 abbrev pub cap_of : Caps → Kind → ℕ

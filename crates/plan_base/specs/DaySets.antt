@@ -1,6 +1,6 @@
 use Rattle.std.specs.Prelude.{ℕ, Bool, ◌==◌}
 use Rattle.std.specs.Int.{bit_at}
-use Rattle.plan_base.specs.declared.days.DaySet.{DaySet}
+pub use Rattle.plan_base.specs.declared.days.DaySet.{DaySet}
 
 -- whether a set of days has this day: its bit is set
 abbrev pub contains_day : DaySet → ℕ → Bool

@@ -1,6 +1,5 @@
 use Rattle.std.specs.Prelude.{ℕ, ◌≤◌}
-use Rattle.plan_base.specs.declared.limits.Kind.TheVariants.{Nodes, Arcs, Links, Stops, Trips, Calls, OsmNodes, Ways, Refs, Routes, Services, Dates}
-use Rattle.plan_base.specs.FullCaps.{full_cap_of}
+use Rattle.plan_base.specs.{declared.limits.Kind.TheVariants.Nodes, declared.limits.Kind.TheVariants.Arcs, declared.limits.Kind.TheVariants.Links, declared.limits.Kind.TheVariants.Stops, declared.limits.Kind.TheVariants.Trips, declared.limits.Kind.TheVariants.Calls, declared.limits.Kind.TheVariants.OsmNodes, declared.limits.Kind.TheVariants.Ways, declared.limits.Kind.TheVariants.Refs, declared.limits.Kind.TheVariants.Routes, declared.limits.Kind.TheVariants.Services, declared.limits.Kind.TheVariants.Dates, FullCaps.full_cap_of}
 
 -- no limit is above the greatest one of its kind
 pub record AreWithin (nodes arcs links stops trips calls osm_nodes ways refs routes services dates : ℕ) : Type 0 where

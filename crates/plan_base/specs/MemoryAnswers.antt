@@ -1,8 +1,6 @@
 use Rattle.std.specs.Prelude.{ℕ, ◌+◌, ◌-◌, ◌^◌, min, List, length, Option, None, Some, Result, Ok, Err, if◌then◌else◌, nat_eq, ◌||◌}
 use Rattle.std.specs.List.{list_any}
-use Rattle.plan_base.specs.declared.reading.ShelfError.{ShelfError}
-use Rattle.plan_base.specs.declared.writing.SinkFailed.{SinkFailed}
-use Rattle.plan_base.specs.declared.reading.ShelfError.TheVariants.{Missing, Failed}
+pub use Rattle.plan_base.specs.{declared.reading.ShelfError.ShelfError, declared.writing.SinkFailed.SinkFailed, declared.reading.ShelfError.TheVariants.Missing, declared.reading.ShelfError.TheVariants.Failed}
 
 -- a counter after one more; the last value of a counter stays
 abbrev pub count_after : ℕ → ℕ

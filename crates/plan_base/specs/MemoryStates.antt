@@ -1,9 +1,6 @@
 use Rattle.std.specs.Prelude.{◌≡◌, ℕ, ◌-◌, [], List, length, Option, Some}
-use Rattle.plan_base.specs.MemoryFiles.{files_of}
-use Rattle.plan_base.specs.Shelves.{ShelfMeaning}
-use Rattle.plan_base.specs.Sinks.{SinkMeaning}
-use Rattle.plan_base.specs.declared.memory_ends.MemoryShelf.{MemoryShelf}
-use Rattle.plan_base.specs.declared.memory_ends.MemorySink.{MemorySink}
+use Rattle.plan_base.specs.{MemoryFiles.files_of, Shelves.ShelfMeaning, Sinks.SinkMeaning}
+pub use Rattle.plan_base.specs.{declared.memory_ends.MemoryShelf.MemoryShelf, declared.memory_ends.MemorySink.MemorySink}
 
 -- what a shelf in memory holds under each name
 abbrev pub shelf_files : MemoryShelf → List ℕ → Option (List ℕ)

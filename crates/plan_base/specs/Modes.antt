@@ -1,9 +1,7 @@
 -- The modes of roads, which are the first letters of words.
-use Rattle.std.specs.Prelude.{ℕ, List, [], ◌∷◌, Option, position, slice_get, option_and_then}
-use Rattle.std.specs.Str.{bytes_eq}
+use Rattle.std.specs.Prelude.{ℕ, List, [], ◌∷◌, Option, position, slice_get, option_and_then, bytes_eq}
 use Rattle.plan_base.specs.LetterNames.{road_names}
-use Rattle.plan_base.specs.declared.modes.Mode.{Mode}
-use Rattle.plan_base.specs.declared.modes.Mode.TheVariants.{Foot, Bike, Car}
+pub use Rattle.plan_base.specs.{declared.modes.Mode.Mode, declared.modes.Mode.TheVariants.Foot, declared.modes.Mode.TheVariants.Bike, declared.modes.Mode.TheVariants.Car}
 
 abbrev pub number_of_mode : Mode → ℕ
 number_of_mode Foot = 0

@@ -1,6 +1,5 @@
-use Rattle.std.specs.Prelude.{ℤ, pos, neg_ℤ, Bool, true, false, T, Option, None, Some, int_le}
-use Rattle.std.specs.Option.{option_and_then, option_map}
-use Rattle.plan_base.specs.declared.places.Place.{Place}
+use Rattle.std.specs.Prelude.{ℤ, pos, neg_ℤ, Bool, true, false, T, Option, None, Some, int_le, option_and_then, option_map}
+pub use Rattle.plan_base.specs.declared.places.Place.{Place}
 
 -- a test with what it shows
 abbrev pub shown : (test : Bool) → Option (T test)

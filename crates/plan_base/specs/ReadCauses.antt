@@ -1,8 +1,6 @@
 use Rattle.std.specs.Prelude.{◌≡◌, ℕ, ◌<◌, List, length, None, IsSomeAnd}
-use Rattle.plan_base.specs.Counts.{Rose}
-use Rattle.plan_base.specs.Shelves.{ShelfMeaning, Told}
-use Rattle.plan_base.specs.declared.reading.ReadFault.{ReadFault}
-use Rattle.plan_base.specs.declared.reading.ReadFault.TheVariants.{Missing, Failed, TooLong, OutOfMemory}
+use Rattle.plan_base.specs.{Counts.Rose, Shelves.ShelfMeaning, Shelves.Told, declared.reading.ReadFault.TheVariants.Missing, declared.reading.ReadFault.TheVariants.Failed}
+pub use Rattle.plan_base.specs.{declared.reading.ReadFault.ReadFault, declared.reading.ReadFault.TheVariants.TooLong, declared.reading.ReadFault.TheVariants.OutOfMemory}
 
 -- why a whole file was refused; that memory ran out needs no cause
 abbrev pub HasReadCause : ShelfMeaning → ShelfMeaning → List ℕ → ℕ → ReadFault → Type 0

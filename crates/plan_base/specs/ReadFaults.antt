@@ -1,6 +1,5 @@
-use Rattle.plan_base.specs.declared.reading.ShelfError.{ShelfError}
+use Rattle.plan_base.specs.{declared.reading.ShelfError.ShelfError, declared.reading.ReadFault.ReadFault}
 use Rattle.plan_base.specs.declared.reading.ShelfError.TheVariants as shelf
-use Rattle.plan_base.specs.declared.reading.ReadFault.{ReadFault}
 use Rattle.plan_base.specs.declared.reading.ReadFault.TheVariants as fault
 
 -- a refused read, as the fault of a whole file

@@ -1,8 +1,5 @@
 use Rattle.std.specs.Prelude.{◌≡◌, ℕ, List, None}
-use Rattle.plan_base.specs.Counts.{Rose}
-use Rattle.plan_base.specs.Shelves.{ShelfMeaning, Told}
-use Rattle.plan_base.specs.declared.reading.ShelfError.{ShelfError}
-use Rattle.plan_base.specs.declared.reading.ShelfError.TheVariants.{Missing, Failed}
+use Rattle.plan_base.specs.{Counts.Rose, Shelves.ShelfMeaning, Shelves.Told, declared.reading.ShelfError.ShelfError, declared.reading.ShelfError.TheVariants.Missing, declared.reading.ShelfError.TheVariants.Failed}
 
 -- why a read was refused: the name was missed, and is not there; or reading failed
 abbrev pub HasCause : ShelfMeaning → ShelfMeaning → List ℕ → ShelfError → Type 0

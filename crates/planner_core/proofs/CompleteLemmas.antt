@@ -1,7 +1,7 @@
 -- A run whose files are there and without fault ends with its work done: each other outcome has a cause that is not there.
-use Rattle.plan_base.specs.declared.limits.Caps.{Caps}
-use Rattle.command_words.specs.Requests.{Request, compile, migrate, contract, answer, certify, verify, check, sample, latest, certify_latest, verify_latest, few, profile, matrix, requests}
-use Rattle.run_steps.specs.Complete.{Files, Completes}
+use Rattle.plan_base.specs.{Caps}
+use Rattle.command_words.specs.{Request, compile, migrate, contract, answer, certify, verify, check, sample, latest, certify_latest, verify_latest, few, profile, matrix, requests}
+use Rattle.run_steps.specs.{Files, Completes}
 use Rattle.run_steps.proofs.CompleteSteps.{file_completes, network_completes, writes_completes}
 use Rattle.compile_commands.proofs.CompleteSteps.{map_completes, feed_completes, build_completes}
 use Rattle.hierarchy_commands.proofs.CompleteLemmas.{check_completes, contract_completes}
@@ -9,8 +9,7 @@ use Rattle.answer_commands.proofs.CompleteLemmas.{answer_completes, certify_comp
 use Rattle.late_commands.proofs.CompleteLemmas.{few_completes, latest_completes, profile_completes, certify_latest_completes, verify_latest_completes}
 use Rattle.matrix_commands.proofs.CompleteLemmas.{matrix_completes}
 use Rattle.request_commands.proofs.CompleteLemmas.{requests_completes}
-use Rattle.planner_core.specs.Commands.{says}
-use Rattle.planner_core.specs.Complete.{CanBeDone}
+use Rattle.planner_core.specs.{says, CanBeDone}
 
 -- what can be done is done
 pub completes : (files : Files) (caps : Caps) (r : Request) → Completes files (CanBeDone caps files r) (says caps r)

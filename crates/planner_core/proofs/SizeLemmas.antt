@@ -1,13 +1,11 @@
 -- Words that ask for a sample city give it a size.
-use Rattle.std.proofs.Common.{◌≡◌, ℕ, ◌≤◌, Bool, true, false, ◌&&◌, cond, nat_le, if◌then◌else◌, List, [], ◌∷◌, Option, Some, None, refl, subst, leb-true, codes}
-use Rattle.std.specs.Prelude.{⊤, drop, find, option_and_then, option_map}
-use Rattle.std.specs.Str.{bytes_eq}
+use Rattle.plan_base.proofs.Common.{◌≡◌, ℕ, ◌≤◌, Bool, true, false, ◌&&◌, cond, nat_le, if◌then◌else◌, List, [], ◌∷◌, Option, Some, None, refl, subst, leb-true, codes, ⊤, drop, find, option_and_then, option_map, bytes_eq}
 use Rattle.clap.specs.Words.{Row, first_of, subcommand_of}
 use Rattle.mode_network.proofs.RuleLemmas.{both}
-use Rattle.region_file.specs.declared.format.Format.TheVariants.{Binary}
-use Rattle.command_line.specs.Description.{modeplan}
-use Rattle.command_words.specs.Requests.{Request, AsksFor, small_number_of_word, size_of_word, format_or, keep_or_none, commands, request_at, two_at, days_and_format_at, compile_at, migrate_at, contract_at, check_at, sample_at, answer_at, certify_at, verify_at, few_at, latest_at, certify_latest_at, verify_latest_at, asking_at, limits_at, places_at, profile_at, matrix_at, requests_at, window_or_two_hours, compile, migrate, contract, answer, certify, verify, check, sample, latest, certify_latest, verify_latest, few, profile, matrix, requests}
-use Rattle.planner_core.specs.inside.Working.{HasSize}
+use Rattle.region_file.specs.{Binary}
+use Rattle.command_line.specs.{modeplan}
+use Rattle.command_words.specs.{Request, AsksFor, small_number_of_word, size_of_word, format_or, keep_or_none, commands, request_at, two_at, days_and_format_at, compile_at, migrate_at, contract_at, check_at, sample_at, answer_at, certify_at, verify_at, few_at, latest_at, certify_latest_at, verify_latest_at, asking_at, limits_at, places_at, profile_at, matrix_at, requests_at, window_or_two_hours, compile, migrate, contract, answer, certify, verify, check, sample, latest, certify_latest, verify_latest, few, profile, matrix, requests}
+use Rattle.planner_core.specs.inside.{HasSize}
 
 in_range : (n size : ℕ) (fits : Bool) → nat_le 1 n && nat_le n 300 ≡ fits → (if fits then Some n else None) ≡ Some size → (1 ≤ size) × (size ≤ 300)
 in_range n size true fits e =

@@ -1,14 +1,14 @@
 -- What each command says of a run by its outcome.
-use Rattle.plan_base.specs.declared.limits.Caps.{Caps}
-use Rattle.command_words.specs.Requests.{Request, compile, migrate, contract, answer, certify, verify, check, sample, latest, certify_latest, verify_latest, few, profile, matrix, requests}
-use Rattle.run_steps.specs.Sayings.{Saying}
-use Rattle.compile_commands.specs.Commands.{SaysCompile, SaysMigrate}
-use Rattle.hierarchy_commands.specs.Commands.{SaysCheck, SaysContract}
-use Rattle.answer_commands.specs.Commands.{SaysAnswer, SaysCertify, SaysVerify}
-use Rattle.sample_command.specs.Summary.{SaysSample}
-use Rattle.request_commands.specs.Commands.{SaysRequests}
-use Rattle.late_commands.specs.Commands.{SaysFew, SaysLatest, SaysProfile, SaysCertifyLatest, SaysVerifyLatest}
-use Rattle.matrix_commands.specs.Commands.{SaysMatrix}
+use Rattle.plan_base.specs.{Caps}
+use Rattle.command_words.specs.{Request, compile, migrate, contract, answer, certify, verify, check, sample, latest, certify_latest, verify_latest, few, profile, matrix, requests}
+use Rattle.run_steps.specs.{Saying}
+use Rattle.compile_commands.specs.{SaysCompile, SaysMigrate}
+use Rattle.hierarchy_commands.specs.{SaysCheck, SaysContract}
+use Rattle.answer_commands.specs.{SaysAnswer, SaysCertify, SaysVerify}
+use Rattle.sample_command.specs.{SaysSample}
+use Rattle.request_commands.specs.{SaysRequests}
+use Rattle.late_commands.specs.{SaysFew, SaysLatest, SaysProfile, SaysCertifyLatest, SaysVerifyLatest}
+use Rattle.matrix_commands.specs.{SaysMatrix}
 
 -- What a run says that was asked for this: `compile` writes the region of a map and a feed over some days, in a format, and `migrate` a region in another one; `contract` writes a hierarchy of
 -- the region's road layers; `answer` writes a right block for each query line of a file, in order, and with a hierarchy how many labels its searches had; `certify` a certificate for a query

@@ -1,16 +1,15 @@
 -- What can be done: the files that a request names are there and without fault.
 use Rattle.std.specs.Prelude.{◌≡◌, ℕ, List, Some}
-use Rattle.plan_base.specs.declared.limits.Caps.{Caps}
-use Rattle.command_words.specs.Requests.{Request, AsksFor, compile, migrate, contract, answer, certify, verify, check, sample, latest, certify_latest, verify_latest, few, profile, matrix, requests}
+use Rattle.plan_base.specs.{Caps}
+use Rattle.command_words.specs.{Request, AsksFor, compile, migrate, contract, answer, certify, verify, check, sample, latest, certify_latest, verify_latest, few, profile, matrix, requests}
 use Rattle.run_steps.specs.declared.outcome.FileRole.TheVariants as role
-use Rattle.run_steps.specs.Complete.{Files, IsHeld, IsRegionHeld, IsQuiet, IsDoneOrMemory}
-use Rattle.run_steps.specs.Sayings.{Saying}
-use Rattle.compile_commands.specs.Complete.{GivesRegion, IsFeedHeld, SpellsObjects}
-use Rattle.hierarchy_commands.specs.Complete.{CanCheck, CanContract}
-use Rattle.answer_commands.specs.Complete.{CanAnswer, CanCertify, CanVerify}
-use Rattle.request_commands.specs.Complete.{CanRequests}
-use Rattle.late_commands.specs.Complete.{CanFew, CanLatest, CanProfile, CanCertifyLatest, CanVerifyLatest}
-use Rattle.matrix_commands.specs.Complete.{CanMatrix}
+use Rattle.run_steps.specs.{Files, IsHeld, IsRegionHeld, IsQuiet, IsDoneOrMemory, Saying}
+use Rattle.compile_commands.specs.{GivesRegion, IsFeedHeld, SpellsObjects}
+use Rattle.hierarchy_commands.specs.{CanCheck, CanContract}
+use Rattle.answer_commands.specs.{CanAnswer, CanCertify, CanVerify}
+use Rattle.request_commands.specs.{CanRequests}
+use Rattle.late_commands.specs.{CanFew, CanLatest, CanProfile, CanCertifyLatest, CanVerifyLatest}
+use Rattle.matrix_commands.specs.{CanMatrix}
 
 -- all that is asked for can be done: each file is there and without fault
 abbrev pub CanBeDone : Caps → Files → Request → Type 0

@@ -1,9 +1,8 @@
 -- What the outcome of a run says.
 use Rattle.std.specs.Prelude.{ℕ, ◌⊎◌, List}
-use Rattle.plan_base.specs.declared.limits.Caps.{Caps}
-use Rattle.command_words.specs.Requests.{Request, AsksFor, AreRefused}
-use Rattle.run_steps.specs.declared.outcome.Outcome.TheVariants.{Usage, OutOfMemory}
-use Rattle.run_steps.specs.Sayings.{Saying, Ends}
+use Rattle.plan_base.specs.{Caps}
+use Rattle.command_words.specs.{Request, AsksFor, AreRefused}
+use Rattle.run_steps.specs.{Usage, OutOfMemory, Saying, Ends}
 use Rattle.planner_core.specs.Commands.{says}
 
 -- What a run with these words says: that they are refused, where they ask for nothing; or what it says that was asked for. Before

@@ -1,17 +1,10 @@
 -- What walks reach over the graph in use does not depend on how a timetable sorts the runs into patterns.
-use Rattle.std.proofs.Common.{◌≡◌, ℕ, List, [], ◌∷◌, ◌++◌, Option, Some, None, refl, sym, subst, ap₂}
-use Rattle.std.specs.Prelude.{option_to_list}
-use Rattle.search_laws.specs.GraphLaws.{GraphMeaning}
-use Rattle.search_laws.specs.LabelLaws.{LabelsMeaning, Accepts, Reads}
-use Rattle.search_laws.specs.Walks.{WalkStep, wait, arc, IsWalk, word_from, ArrivesAt}
-use Rattle.product_search.specs.declared.label.Label.{Label}
-use Rattle.product_search.specs.Answer.{IsArrival}
-use Rattle.product_search.specs.Limits.{HasMoreLabels}
-use Rattle.product_search.specs.Reach.{IsReachedAt, IsLeastAt}
-use Rattle.automaton.specs.Collapsed.{collapsed}
-use Rattle.phase_graph.specs.Arcs.{HasWalk}
-use Rattle.phase_graph.specs.InUse.{Covers, CoverEachOther}
-use Rattle.planning.specs.Plans.{AreLabelsOver}
+use Rattle.plan_base.proofs.Common.{◌≡◌, ℕ, List, [], ◌∷◌, ◌++◌, Option, Some, None, refl, sym, subst, ap₂, option_to_list}
+use Rattle.search_laws.specs.{GraphMeaning, LabelsMeaning, Accepts, Reads, WalkStep, wait, arc, IsWalk, word_from, ArrivesAt}
+use Rattle.product_search.specs.{Label, IsArrival, HasMoreLabels, IsReachedAt, IsLeastAt}
+use Rattle.automaton.specs.{collapsed}
+use Rattle.phase_graph.specs.{HasWalk, Covers, CoverEachOther}
+use Rattle.planning.specs.{AreLabelsOver}
 
 -- an arc that arrives sooner is waited after, so that a walk of one graph is one of the other with its ends, times and word
 module _ (g h : GraphMeaning) (covers : Covers g h) where

@@ -1,29 +1,16 @@
 -- A least arrival over the graph in use, at the copies of one destination among its targets, is that of a best journey.
-use Rattle.std.proofs.Common.{ℕ, ◌≤◌, ◌∙◌, List, ◌∷◌, Option, Some, None, refl, sym, ap, subst, arith}
-use Rattle.std.specs.Prelude.{Contains}
-use Rattle.search_laws.specs.Collapse.{collapse}
-use Rattle.search_laws.specs.GraphLaws.{GraphMeaning}
-use Rattle.search_laws.specs.LabelLaws.{LabelsMeaning}
-use Rattle.search_laws.specs.Walks.{WalkStep, wait, IsWalk, word_from, ArrivesAt}
-use Rattle.product_search.specs.Answer.{IsArrival}
-use Rattle.hierarchy.specs.Lists.{HierarchyLists}
+use Rattle.plan_base.proofs.Common.{ℕ, ◌≤◌, ◌∙◌, List, ◌∷◌, Option, Some, None, refl, sym, ap, subst, arith, Contains}
+use Rattle.search_laws.specs.{collapse, GraphMeaning, LabelsMeaning, WalkStep, wait, IsWalk, word_from, ArrivesAt}
+use Rattle.product_search.specs.{IsArrival}
+use Rattle.hierarchy.specs.{HierarchyLists}
 use Rattle.plain_graph.proofs.Same.{walks_are_journeys}
-use Rattle.phase_graph.specs.Arcs.{phase_node, IsPhaseGraph}
-use Rattle.phase_graph.specs.PhaseArcs.{node_of, is_down}
-use Rattle.phase_graph.specs.InUse.{IsInUse, IsSoundIfGiven, starts_in, ends_in, node_under}
-use Rattle.phase_graph.specs.Laws.{HasJourney}
-use Rattle.phase_graph.proofs.GraphLemmas.{whole, half}
-use Rattle.phase_graph.proofs.GraphMoves.{is_phase_graph}
-use Rattle.phase_graph.proofs.InUseLemmas.{starts_under, ends_under, walk_to_some}
-use Rattle.phase_graph.proofs.WalkedLemmas.{walks_have_journeys}
-use Rattle.mode_expression.specs.Form.{IsWordOf}
-use Rattle.mode_network.specs.NetworkLists.{NetworkLists}
-use Rattle.mode_network.specs.Rules.{IsNetwork}
-use Rattle.mode_network.specs.Journeys.{Route}
-use Rattle.journey.specs.CopyLists.{AreTheCopies}
-use Rattle.journey.specs.Best.{Asked, Answers}
-use Rattle.certificate.specs.Verdicts.{AreDenoted}
-use Rattle.planning.specs.Arrivals.{IsBestArrival}
+use Rattle.phase_graph.specs.{phase_node, IsPhaseGraph, node_of, is_down, IsInUse, IsSoundIfGiven, starts_in, ends_in, node_under, HasJourney}
+use Rattle.phase_graph.proofs.{GraphLemmas.whole, GraphLemmas.half, GraphMoves.is_phase_graph, InUseLemmas.starts_under, InUseLemmas.ends_under, InUseLemmas.walk_to_some, WalkedLemmas.walks_have_journeys}
+use Rattle.mode_expression.specs.{IsWordOf}
+use Rattle.mode_network.specs.{NetworkLists.NetworkLists, IsNetwork, Route}
+use Rattle.journey.specs.{AreTheCopies, Asked, Answers}
+use Rattle.certificate.specs.{AreDenoted}
+use Rattle.planning.specs.{IsBestArrival}
 
 -- ---- walks and journeys
 

@@ -1,32 +1,16 @@
 -- The destinations that are listed, and the arrivals at them.
-use Rattle.std.proofs.Common.{◌≡◌, ℕ, suc, ◌+◌, ◌-◌, ◌≤◌, ◌<◌, ◌⊎◌, inl, inr, min, ◌∙◌, List, [], ◌∷◌, ◌++◌, append_assoc, append-nil, length, length-append, length-drop, length-take, get_or, get_or-take, get_or-drop, Option, Some, None, refl, sym, ap, subst, arith, below_more}
-use Rattle.std.specs.Prelude.{All, Contains, map}
-use Rattle.std.specs.List.{fold, slice_range}
+use Rattle.plan_base.proofs.Common.{◌≡◌, ℕ, suc, ◌+◌, ◌-◌, ◌≤◌, ◌<◌, ◌⊎◌, inl, inr, min, ◌∙◌, List, [], ◌∷◌, ◌++◌, append_assoc, append-nil, length, length-append, length-drop, length-take, get_or, get_or-take, get_or-drop, Option, Some, None, refl, sym, ap, subst, arith, below_more, All, Contains, map, fold, slice_range, get_or-append_seam, cases_lt, get_or_append_left, get_or-append-add, get_or_default, length-map, Contains-append_left, Contains-append_right, Contains-append_cases}
 use Rattle.std.proofs.Math.ListN.{get_or-map}
-use Rattle.std.proofs.Math.Seq.{get_or-append_seam}
-use Rattle.std.proofs.lemmas.Bool.{cases_lt}
-use Rattle.std.proofs.lemmas.List.{get_or_append_left, get_or-append-add, get_or_default, length-map}
-use Rattle.std.proofs.lemmas.List.Elements.{Contains-append_left, Contains-append_right, Contains-append_cases}
-use Rattle.search_laws.specs.GraphLaws.{GraphMeaning}
-use Rattle.search_laws.specs.LabelLaws.{LabelsMeaning}
-use Rattle.search_laws.specs.Walks.{ArrivesAt}
-use Rattle.product_search.specs.Answer.{IsArrival}
-use Rattle.product_search.specs.Arrivals.{IsArrivalAt, AreArrivals}
-use Rattle.hierarchy.specs.Lists.{HierarchyLists}
-use Rattle.phase_graph.specs.InUse.{starts_in, ends_in, node_under}
-use Rattle.phase_graph.specs.InUseGraph.{meaning_in_use}
+use Rattle.search_laws.specs.{GraphMeaning, LabelsMeaning, ArrivesAt}
+use Rattle.product_search.specs.{IsArrival, IsArrivalAt, AreArrivals}
+use Rattle.hierarchy.specs.{HierarchyLists}
+use Rattle.phase_graph.specs.{starts_in, ends_in, node_under, meaning_in_use}
 use Rattle.phase_graph.proofs.InUseLemmas.{ends_under}
-use Rattle.mode_expression.specs.Form.{form_of}
-use Rattle.mode_network.specs.NetworkLists.{NetworkLists}
-use Rattle.mode_network.specs.Rules.{IsNetwork}
-use Rattle.journey.specs.declared.query.Query.{Query}
-use Rattle.journey.specs.CopyLists.{AreTheCopies}
-use Rattle.certificate.specs.Verdicts.{AreDenoted}
-use Rattle.planning.specs.declared.destinations.Part.{Part}
-use Rattle.planning.specs.declared.destinations.Listing.{Listing}
-use Rattle.planning.specs.declared.destinations.Destinations.{Destinations}
-use Rattle.planning.specs.Arrivals.{IsArrivalTo, AreArrivalsTo, asked_to}
-use Rattle.planning.specs.Destinations.{AddsDestination, AreDestinations, IsPartFor, ArePartsFor, earlier, earliest_in, hierarchy_searched}
+use Rattle.mode_expression.specs.{form_of}
+use Rattle.mode_network.specs.{NetworkLists.NetworkLists, IsNetwork}
+use Rattle.journey.specs.{Query, AreTheCopies}
+use Rattle.certificate.specs.{AreDenoted}
+use Rattle.planning.specs.{Part, Listing, IsArrivalTo, AreArrivalsTo, asked_to, AddsDestination, AreDestinations, IsPartFor, ArePartsFor, earlier, earliest_in, hierarchy_searched, declared.destinations.Destinations.Destinations}
 use Rattle.planning.proofs.ArrivalLemmas.{best_arrival}
 
 -- ---- listing

@@ -1,26 +1,14 @@
 -- The labels of a search, or that it has more than a limit, over each graph in use.
-use Rattle.std.proofs.Common.{ℕ, ◌≤◌, List, Option, None, Some, inl, inr, refl, arith}
-use Rattle.std.specs.Prelude.{IfSome}
-use Rattle.search_laws.specs.GraphLaws.{GraphMeaning}
-use Rattle.search_laws.specs.LabelLaws.{LabelsMeaning}
-use Rattle.product_search.specs.declared.label.Label.{Label}
-use Rattle.product_search.specs.Answer.{IsArrival}
-use Rattle.product_search.specs.Listed.{AreLeastLabels, HasLeastLabels}
-use Rattle.product_search.specs.Limits.{HasMoreLabels}
-use Rattle.automaton.specs.Collapsed.{collapsed}
-use Rattle.hierarchy.specs.Lists.{HierarchyLists}
-use Rattle.mode_network.specs.NetworkLists.{NetworkLists}
-use Rattle.mode_network.specs.Rules.{IsNetwork}
-use Rattle.phase_graph.specs.InUse.{starts_in, ends_in}
+use Rattle.plan_base.proofs.Common.{ℕ, ◌≤◌, List, Option, None, Some, inl, inr, refl, arith, IfSome}
+use Rattle.search_laws.specs.{GraphMeaning, LabelsMeaning}
+use Rattle.product_search.specs.{Label, IsArrival, AreLeastLabels, HasLeastLabels, HasMoreLabels}
+use Rattle.automaton.specs.{collapsed}
+use Rattle.hierarchy.specs.{HierarchyLists}
+use Rattle.mode_network.specs.{NetworkLists.NetworkLists, IsNetwork}
+use Rattle.phase_graph.specs.{starts_in, ends_in}
 use Rattle.phase_graph.proofs.InUseLemmas.{graphs_in_use_are_alike}
-use Rattle.journey.specs.declared.query.Query.{Query}
-use Rattle.journey.specs.declared.fault.QueryFault.{QueryFault}
-use Rattle.journey.specs.Queries.{IsRefused}
-use Rattle.journey.specs.Best.{Asked, asked_by}
-use Rattle.planning.specs.Plans.{AreTheLabels}
-use Rattle.planning.specs.Settled.{HasLabelCount, IsLabelCount, told_count}
-use Rattle.planning.specs.Limits.{SearchHasMore, SearchHasAtMost, IsLineWithin, IsWithinLabels}
-use Rattle.planning.specs.inside.Searched.{IsSearchSpace}
+use Rattle.journey.specs.{Query, QueryFault, IsRefused, Asked, asked_by}
+use Rattle.planning.specs.{AreTheLabels, HasLabelCount, IsLabelCount, told_count, SearchHasMore, SearchHasAtMost, IsLineWithin, IsWithinLabels, inside.IsSearchSpace}
 use Rattle.planning.proofs.AnyGraph.{labels_over, more_over}
 
 module _ (n : NetworkLists) (network : IsNetwork n) (h : Option HierarchyLists) (q : Query) (g : GraphMeaning) (l : LabelsMeaning) (starts ends : List ℕ)

@@ -1,42 +1,21 @@
 -- A least arrival in the product of the graph in use and the automaton of an expression is that of a best journey.
-use Rattle.std.proofs.Common.{◌≡◌, ℕ, ◌^◌, ◌<◌, ◌≤◌, ◌∙◌, List, ◌∷◌, length, Option, Some, None, refl, sym, subst, arith}
-use Rattle.std.specs.Prelude.{All, Contains, IfSome, slice_index_or}
-use Rattle.std.proofs.lemmas.List.Elements.{All-contains_itself}
-use Rattle.search_laws.specs.GraphLaws.{GraphMeaning}
-use Rattle.search_laws.specs.LabelLaws.{LabelsMeaning, Accepts}
-use Rattle.search_laws.specs.Walks.{wait, ArrivesAt}
-use Rattle.search_laws.specs.Collapse.{collapse}
-use Rattle.product_search.specs.declared.label.Label.{Label}
-use Rattle.product_search.specs.declared.label.Walk.{Walk}
-use Rattle.product_search.specs.Answer.{IsArrival, IsWalkTo, IsWalkFor, last_time}
-use Rattle.product_search.specs.Closed.{NoneArrivesBefore}
+use Rattle.plan_base.proofs.Common.{◌≡◌, ℕ, ◌^◌, ◌<◌, ◌≤◌, ◌∙◌, List, ◌∷◌, length, Option, Some, None, refl, sym, subst, arith, All, Contains, IfSome, slice_index_or, All-contains_itself}
+use Rattle.search_laws.specs.{GraphMeaning, LabelsMeaning, Accepts, wait, ArrivesAt, collapse}
+use Rattle.product_search.specs.{Label, Walk, IsArrival, IsWalkTo, IsWalkFor, last_time, NoneArrivesBefore}
 use Rattle.product_search.proofs.HopLemmas.{reads_of_hops}
-use Rattle.automaton.specs.Collapsed.{collapsed}
-use Rattle.hierarchy.specs.Lists.{HierarchyLists}
-use Rattle.phase_graph.specs.InUse.{IsInUse, starts_in, ends_in, node_under}
+use Rattle.automaton.specs.{collapsed}
+use Rattle.hierarchy.specs.{HierarchyLists}
+use Rattle.phase_graph.specs.{IsInUse, starts_in, ends_in, node_under}
 use Rattle.phase_graph.proofs.InUseLemmas.{starts_under, ends_under}
-use Rattle.mode_expression.specs.Form.{form_of, IsWordOf}
-use Rattle.mode_network.specs.NetworkLists.{NetworkLists, nodes_of}
-use Rattle.mode_network.specs.Rules.{IsNetwork}
-use Rattle.mode_network.specs.Journeys.{Route, AreSteps}
-use Rattle.mode_network.specs.Copies.{IsCopy}
-use Rattle.journey.specs.declared.query.Query.{Query}
-use Rattle.journey.specs.Queries.{IsQuery}
-use Rattle.journey.specs.Best.{Asked, Answers, asked_by}
-use Rattle.journey.specs.Blocks.{IsPrintable}
-use Rattle.journey.specs.Boarded.{BoardsOnTime}
+use Rattle.mode_expression.specs.{form_of, IsWordOf}
+use Rattle.mode_network.specs.{NetworkLists.NetworkLists, nodes_of, IsNetwork, Route, AreSteps, IsCopy}
+use Rattle.journey.specs.{Query, IsQuery, Asked, Answers, asked_by, IsPrintable, BoardsOnTime}
 use Rattle.journey.proofs.CopyLemmas.{copy_in_range}
-use Rattle.unpack.specs.Unpacking.{node_after}
-use Rattle.unpack.specs.PhaseUnpacking.{letters_in}
-use Rattle.unpack.proofs.TakenLemmas.{has_time}
-use Rattle.unpack.proofs.UnpackLemmas.{hops_in, hops_end_in, hops_letters_in}
-use Rattle.certificate.specs.Texts.{FitsResult}
-use Rattle.certificate.specs.Valid.{ResultHolds, claimed_arrival, IsBestResult, Proves}
-use Rattle.certificate.specs.Verdicts.{claim_on}
-use Rattle.certificate.proofs.UniqueLemmas.{journey_once}
-use Rattle.certificate.proofs.VerifyLemmas.{best_result}
-use Rattle.planning.specs.Plans.{IsCertifiable, IsPlan, both, route_of}
-use Rattle.planning.specs.inside.Searched.{IsSearchSpace, IsWalkOf, IsJourneyUnder, LiesUnder}
+use Rattle.unpack.specs.{node_after, letters_in}
+use Rattle.unpack.proofs.{TakenLemmas.has_time, UnpackLemmas.hops_in, UnpackLemmas.hops_end_in, UnpackLemmas.hops_letters_in}
+use Rattle.certificate.specs.{FitsResult, ResultHolds, claimed_arrival, IsBestResult, Proves, claim_on}
+use Rattle.certificate.proofs.{UniqueLemmas.journey_once, VerifyLemmas.best_result}
+use Rattle.planning.specs.{IsCertifiable, IsPlan, both, route_of, inside.IsSearchSpace, inside.IsWalkOf, inside.IsJourneyUnder, inside.LiesUnder}
 
 -- ---- numbers of the graph in use
 

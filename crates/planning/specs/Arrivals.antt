@@ -1,10 +1,8 @@
 -- When best journeys arrive, at one destination and at many.
 use Rattle.std.specs.Prelude.{◌≡◌, ℕ, ◌<◌, List, length, Option, Some, None, slice_index_or}
-use Rattle.mode_expression.specs.Form.{form_of}
-use Rattle.mode_network.specs.NetworkLists.{NetworkLists}
-use Rattle.mode_network.specs.Journeys.{Route}
-use Rattle.journey.specs.declared.query.Query.{Query}
-use Rattle.journey.specs.Best.{Asked, IsBest, HasNone}
+use Rattle.mode_expression.specs.{form_of}
+use Rattle.mode_network.specs.{NetworkLists.NetworkLists, Route}
+use Rattle.journey.specs.{Query, Asked, IsBest, HasNone}
 
 -- when a best journey arrives; or None where no journey answers
 abbrev pub IsBestArrival : NetworkLists → Asked → Option ℕ → Type 0

@@ -1,17 +1,11 @@
 -- How the destinations of queries are kept, so that one search finds the arrivals at all of them.
-use Rattle.std.specs.Prelude.{◌≡◌, ℕ, ◌+◌, ◌<◌, List, [], ◌∷◌, ◌++◌, length, min, Option, Some, None, Contains, slice_index_or, option_map}
-use Rattle.std.specs.List.{fold, slice_range}
+use Rattle.std.specs.Prelude.{◌≡◌, ℕ, ◌+◌, ◌<◌, List, [], ◌∷◌, ◌++◌, length, min, Option, Some, None, Contains, slice_index_or, option_map, fold, slice_range}
 use Rattle.std.specs.Borrow.{Bor}
-use Rattle.hierarchy.specs.declared.hierarchy.Hierarchy.{Hierarchy}
-use Rattle.hierarchy.specs.Lists.{HierarchyLists}
-use Rattle.phase_graph.specs.InUse.{IsInUse, IsSoundIfGiven, ends_in}
-use Rattle.phase_graph.specs.InUseGraph.{meaning_in_use}
+use Rattle.hierarchy.specs.{declared.hierarchy.Hierarchy.Hierarchy, HierarchyLists}
+use Rattle.phase_graph.specs.{IsInUse, IsSoundIfGiven, ends_in, meaning_in_use}
 use Rattle.mode_network.specs.NetworkLists.{NetworkLists}
-use Rattle.journey.specs.declared.query.Query.{Query}
-use Rattle.journey.specs.CopyLists.{AreTheCopies}
-use Rattle.planning.specs.declared.destinations.Part.{Part}
-use Rattle.planning.specs.declared.destinations.Listing.{Listing}
-use Rattle.planning.specs.declared.destinations.Destinations.{Destinations}
+use Rattle.journey.specs.{Query, AreTheCopies}
+pub use Rattle.planning.specs.{declared.destinations.Part.Part, declared.destinations.Listing.Listing, declared.destinations.Destinations.Destinations}
 
 -- the copies of a query's destination, if there is a query
 abbrev pub AreCopiesTo : NetworkLists → Option Query → List ℕ → Type 0

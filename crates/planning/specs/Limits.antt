@@ -1,22 +1,13 @@
 -- What is right of a query line whose search may have so many labels, and no more.
 use Rattle.std.specs.Prelude.{◌≡◌, ℕ, ◌≤◌, ◌⊎◌, List, length, Option, Some, None}
-use Rattle.search_laws.specs.GraphLaws.{GraphMeaning}
-use Rattle.search_laws.specs.LabelLaws.{LabelsMeaning}
-use Rattle.product_search.specs.declared.label.Label.{Label}
-use Rattle.product_search.specs.Limits.{HasMoreLabels}
-use Rattle.automaton.specs.Written.{written}
-use Rattle.automaton.specs.States.{IsPositionAutomaton}
-use Rattle.automaton.specs.Collapsed.{collapsed}
-use Rattle.hierarchy.specs.Lists.{HierarchyLists}
-use Rattle.phase_graph.specs.InUse.{IsInUse, starts_in, ends_in}
+use Rattle.search_laws.specs.{GraphMeaning, LabelsMeaning}
+use Rattle.product_search.specs.{Label, HasMoreLabels}
+use Rattle.automaton.specs.{written, IsPositionAutomaton, collapsed}
+use Rattle.hierarchy.specs.{HierarchyLists}
+use Rattle.phase_graph.specs.{IsInUse, starts_in, ends_in}
 use Rattle.mode_network.specs.NetworkLists.{NetworkLists}
-use Rattle.journey.specs.declared.fault.QueryFault.{QueryFault}
-use Rattle.journey.specs.Queries.{IsRefused}
-use Rattle.journey.specs.CopyLists.{AreTheCopies}
-use Rattle.journey.specs.Best.{Asked, Asks, IsToldBlock}
-use Rattle.journey.specs.Large.{stopped_block}
-use Rattle.planning.specs.Plans.{AreTheLabels}
-use Rattle.planning.specs.Settled.{IsSettledCount}
+use Rattle.journey.specs.{QueryFault, IsRefused, AreTheCopies, Asked, Asks, IsToldBlock, stopped_block}
+use Rattle.planning.specs.{Plans.AreTheLabels, Settled.IsSettledCount}
 
 -- the search for what is asked has more labels than so many, over each graph in use
 pub record SearchHasMore (n : NetworkLists) (h : Option HierarchyLists) (q : Asked) (limit : ℕ) : Type 0 where

@@ -1,28 +1,14 @@
 -- What is found for a query, without a hierarchy and over one.
 use Rattle.std.specs.Prelude.{◌≡◌, ℕ, ◌<◌, ◌^◌, List, Option, Some, None, All, option_map}
-use Rattle.mode_expression.specs.Form.{form_of, IsUsable}
-use Rattle.search_laws.specs.GraphLaws.{GraphMeaning}
-use Rattle.search_laws.specs.LabelLaws.{LabelsMeaning}
-use Rattle.product_search.specs.declared.label.Label.{Label}
-use Rattle.product_search.specs.Listed.{AreLeastLabels}
-use Rattle.product_search.specs.Answer.{IsArrival}
-use Rattle.automaton.specs.Written.{written}
-use Rattle.automaton.specs.States.{IsPositionAutomaton}
-use Rattle.automaton.specs.Collapsed.{collapsed}
-use Rattle.hierarchy.specs.Lists.{HierarchyLists}
-use Rattle.phase_graph.specs.InUse.{IsInUse, starts_in, ends_in}
-use Rattle.mode_network.specs.NetworkLists.{NetworkLists}
-use Rattle.mode_network.specs.Journeys.{Route}
-use Rattle.journey.specs.declared.query.Query.{Query}
-use Rattle.journey.specs.Queries.{IsQuery}
-use Rattle.journey.specs.CopyLists.{AreTheCopies}
-use Rattle.journey.specs.Best.{Asked, IsBest, HasNone, asked_by}
-use Rattle.journey.specs.Blocks.{IsPrintable}
-use Rattle.journey.specs.Boarded.{BoardsOnTime}
-use Rattle.certificate.specs.Lines.{HasLabelTime}
-use Rattle.certificate.specs.Texts.{FitsResult}
-use Rattle.certificate.specs.Valid.{IsValid}
-use Rattle.certificate.specs.Verdicts.{claim_on}
+use Rattle.mode_expression.specs.{form_of, IsUsable}
+use Rattle.search_laws.specs.{GraphMeaning, LabelsMeaning}
+use Rattle.product_search.specs.{Label, AreLeastLabels, IsArrival}
+use Rattle.automaton.specs.{written, IsPositionAutomaton, collapsed}
+use Rattle.hierarchy.specs.{HierarchyLists}
+use Rattle.phase_graph.specs.{IsInUse, starts_in, ends_in}
+use Rattle.mode_network.specs.{NetworkLists.NetworkLists, Route}
+use Rattle.journey.specs.{Query, IsQuery, AreTheCopies, Asked, IsBest, HasNone, asked_by, IsPrintable, BoardsOnTime}
+use Rattle.certificate.specs.{HasLabelTime, FitsResult, IsValid, claim_on}
 
 -- the query was read from its line on this network
 pub record IsRead (n : NetworkLists) (q : Query) : Type 0 where

@@ -1,11 +1,9 @@
 -- How many labels the searches for query lines have.
 use Rattle.std.specs.Prelude.{◌≡◌, ℕ, ◌+◌, ◌⊎◌, List, [], ◌∷◌, length, Option, Some, None}
-use Rattle.product_search.specs.declared.label.Label.{Label}
-use Rattle.hierarchy.specs.Lists.{HierarchyLists}
+use Rattle.product_search.specs.{Label}
+use Rattle.hierarchy.specs.{HierarchyLists}
 use Rattle.mode_network.specs.NetworkLists.{NetworkLists}
-use Rattle.journey.specs.declared.fault.QueryFault.{QueryFault}
-use Rattle.journey.specs.Queries.{IsRefused}
-use Rattle.journey.specs.Best.{Asked, Asks}
+use Rattle.journey.specs.{QueryFault, IsRefused, Asked, Asks}
 use Rattle.planning.specs.Plans.{AreTheLabels}
 
 -- how many labels the search has

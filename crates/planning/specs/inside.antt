@@ -1,1 +1,2 @@
 pub mod Searched
+pub use Searched.{IsSearchSpace, IsWalkOf, LiesUnder, IsJourneyUnder}

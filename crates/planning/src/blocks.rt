@@ -2,8 +2,8 @@
 
 ghost use Rattle.std.specs.Prelude.{◌≡◌, IfOk, IfSome, Some, option_map};
 ghost use Rattle.hierarchy.specs.Soundness.{IsSound};
-ghost use Rattle.journey.specs.Best.{IsBoardedBody, IsRightBody, IsToldBlock};
-ghost use Rattle.journey.specs.Blocks.{IsBlockText, IsPrintableBody};
+ghost use Rattle.journey.specs.Best.{IsBoardedBody, IsRightBody};
+ghost use Rattle.journey.specs.Blocks.{IsPrintableBody};
 ghost use Rattle.planning.specs.Limits.{IsBlockWithin, IsLineWithin, IsSettledWithin, IsStoppedLine};
 ghost use Rattle.planning.specs.Settled.{IsSettledCount};
 ghost use Rattle.product_search.specs.Limits.{IfEnded, IfStopped};

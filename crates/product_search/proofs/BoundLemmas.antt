@@ -1,18 +1,9 @@
 -- Where a list of labels is closed, no accepted walk arrives before the arrival that it goes with.
-use Rattle.std.proofs.Common.{◌≡◌, ℕ, zero, suc, ◌<◌, ◌≤◌, List, length, get_or, Some, None, inl, inr, subst, arith}
-use Rattle.std.specs.Prelude.{Option, IsTrue, Contains}
-use Rattle.std.proofs.lemmas.Bool.{cases_lt}
-use Rattle.search_laws.specs.GraphLaws.{GraphMeaning, HasArc, IsLawfulGraph}
-use Rattle.search_laws.specs.LabelLaws.{LabelsMeaning, AllAfter}
-use Rattle.search_laws.specs.Walks.{ArrivesAt}
+use Rattle.plan_base.proofs.Common.{◌≡◌, ℕ, zero, suc, ◌<◌, ◌≤◌, List, length, get_or, Some, None, inl, inr, subst, arith, Option, IsTrue, Contains, cases_lt}
+use Rattle.search_laws.specs.{GraphMeaning, HasArc, IsLawfulGraph, LabelsMeaning, AllAfter, ArrivesAt, HoldsBelow}
 use Rattle.search_laws.proofs.WalkLemmas.{walk_rises, walk_known}
-use Rattle.product_search.specs.declared.label.Label.{Label}
-use Rattle.product_search.specs.Reach.{IsBefore}
-use Rattle.product_search.specs.Listed.{label_of, IsBelow, AreAscendingLabels}
-use Rattle.search_laws.specs.Firsts.{HoldsBelow}
-use Rattle.product_search.specs.Closed.{IsListedBy, IsInOrderAt, ArcIsListed, IsClosed, NoneArrivesBefore}
-use Rattle.product_search.proofs.CheckLemmas.{label_total}
-use Rattle.product_search.proofs.StartLemmas.{pairs_contain}
+use Rattle.product_search.specs.{Label, IsBefore, label_of, IsBelow, AreAscendingLabels, IsListedBy, IsInOrderAt, ArcIsListed, IsClosed, NoneArrivesBefore}
+use Rattle.product_search.proofs.{CheckLemmas.label_total, StartLemmas.pairs_contain}
 
 -- ---- order
 

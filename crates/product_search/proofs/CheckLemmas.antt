@@ -1,17 +1,6 @@
 -- A label is found in a list by halving.
-use Rattle.std.proofs.Common.{◌≡◌, ℕ, ◌<◌, ◌≤◌, Bool, List, length, get_or, Less, Equal, Greater, inl, inr, sym, ◌∙◌, ap, subst, arith}
-use Rattle.std.specs.Prelude.{IsTrue, Contains, ◌↔◌}
-use Rattle.std.specs.Cmp.{IsTotalOrder}
-use Rattle.std.specs.Ordering.{nat_cmp, ordering_reverse}
-use Rattle.std.proofs.lemmas.Bool.{cases_lt, cases_order}
-use Rattle.std.proofs.lemmas.Bool.Decides.{nat_tests}
-use Rattle.std.proofs.lemmas.Cmp.{then_total, on_total, nat_cmp_total}
-use Rattle.std.proofs.lemmas.List.{get_or_default}
-use Rattle.std.proofs.lemmas.List.Elements.{Contains-get_or}
-use Rattle.std.proofs.lemmas.Map.Lookups.{exact_pairs, exact_unsigned}
-use Rattle.product_search.specs.declared.label.Label.{Label}
-use Rattle.product_search.specs.Listed.{label_of, label_cmp, AreAscendingLabels}
-use Rattle.product_search.specs.Closed.{IsListedBy}
+use Rattle.plan_base.proofs.Common.{◌≡◌, ℕ, ◌<◌, ◌≤◌, Bool, List, length, get_or, inl, inr, sym, ◌∙◌, ap, subst, arith, IsTrue, Contains, ◌↔◌, IsTotalOrder, nat_cmp, ordering_reverse, cases_lt, cases_order, nat_tests, then_total, on_total, nat_cmp_total, get_or_default, Contains-get_or, exact_pairs, exact_unsigned, Less, Equal, Greater}
+use Rattle.product_search.specs.{Label, label_of, label_cmp, AreAscendingLabels, IsListedBy}
 
 pub label_total : IsTotalOrder label_cmp
 label_total = then_total (on_total (λ (x : Label). x.node) nat_cmp_total) (on_total (λ (x : Label). x.state) nat_cmp_total)
@@ -71,8 +60,3 @@ found_is list ascending m x v q t lt is equal b test = (λ yes. (x.at, test.0 ye
   ] where
     at_place : (k : ℕ) → k < length list → get_or list k (label_of v q at) ≡ label_of v q at → get_or list k x ≡ label_of v q at
     at_place k in_range at_k = get_or_default list k x (label_of v q at) in_range ∙ at_k
-
--- where no place is at the product state, it is not listed
-pub not_found : (list : List Label) (v q t : ℕ) → ((i : ℕ) (d : Label) → i < length list → (label_cmp (get_or list i d) (label_of v q t) ≡ Equal → ⊥)) → IsListedBy list v q t → ⊥
-not_found list v q t none (at, le, (k, in_range, at_k)) =
-    none k (label_of v q at) in_range (ap (λ a. label_cmp a (label_of v q t)) at_k ∙ same_tied v q at t)

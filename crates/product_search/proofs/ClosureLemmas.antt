@@ -1,16 +1,7 @@
 -- The labels of a search that has no bound are closed.
-use Rattle.std.proofs.Common.{◌≡◌, ℕ, zero, suc, ◌-◌, ◌<◌, ◌≤◌, true, false, Bool, cond, List, [], ◌∷◌, length, Some, None, refl, sym, subst, arith}
-use Rattle.std.specs.Prelude.{Option, All, Contains, IsTrue, slice_index_or}
-use Rattle.std.proofs.lemmas.List.{get_or_default}
-use Rattle.std.proofs.lemmas.List.Elements.{All-nil, All-cons, All-append}
-use Rattle.search_laws.specs.GraphLaws.{GraphMeaning, IsLawfulGraph}
-use Rattle.search_laws.specs.LabelLaws.{LabelsMeaning, IsLawfulLabels, Reads, Follows, AllAfter}
-use Rattle.search_laws.specs.Walks.{WalkStep, wait, arc, IsWalk, ArrivesAt}
-use Rattle.product_search.specs.declared.label.Label.{Label}
-use Rattle.product_search.specs.Reach.{IsReachedAt, IsWithin, IsBefore, IsToList}
-use Rattle.product_search.specs.Listed.{AreLeastLabels}
-use Rattle.product_search.specs.Answer.{IsArrival}
-use Rattle.product_search.specs.Closed.{IsListedBy, start_states, pairs_at, start_pairs, IsInOrderAt, StartIsListedAt, IsNoEndAt, ArcsAreListedAt, IsClosed}
+use Rattle.plan_base.proofs.Common.{◌≡◌, ℕ, zero, suc, ◌-◌, ◌<◌, ◌≤◌, true, false, Bool, cond, List, [], ◌∷◌, length, Some, None, refl, sym, subst, arith, Option, All, Contains, IsTrue, slice_index_or, get_or_default, All-nil, All-cons, All-append}
+use Rattle.search_laws.specs.{GraphMeaning, IsLawfulGraph, LabelsMeaning, IsLawfulLabels, Reads, Follows, AllAfter, WalkStep, wait, arc, IsWalk, ArrivesAt}
+use Rattle.product_search.specs.{Label, IsReachedAt, IsWithin, IsBefore, IsToList, AreLeastLabels, IsArrival, IsListedBy, start_states, pairs_at, start_pairs, IsInOrderAt, StartIsListedAt, IsNoEndAt, ArcsAreListedAt, IsClosed}
 use Rattle.product_search.proofs.ReachLemmas.{reached_more}
 
 -- ---- what is reached is in range

@@ -1,31 +1,12 @@
 -- How far the search goes, and what it has found where it ends.
-use Rattle.std.proofs.Common.{◌≡◌, ℕ, ◌+◌, ◌-◌, ◌^◌, ◌<◌, ◌≤◌, inl, inr, true, false, ◌&&◌, List, Some, None, refl, sym, ◌∙◌, ap, subst, arith}
-use Rattle.std.specs.Prelude.{Option, IsTrue, Contains, slice_get}
-use Rattle.std.specs.Bool.{Decides}
+use Rattle.plan_base.proofs.Common.{◌≡◌, ℕ, ◌+◌, ◌-◌, ◌^◌, ◌<◌, ◌≤◌, inl, inr, true, false, ◌&&◌, List, Some, None, refl, sym, ◌∙◌, ap, subst, arith, Option, IsTrue, Contains, slice_get, Decides, BTreeSet, nat_cmp, eq_by_cmp, false≢true, cases_lt, and_parts, and_from}
 use Rattle.std.specs.BTreeSet as sorted
-use Rattle.std.specs.BTreeSet.{BTreeSet}
-use Rattle.std.specs.Ordering.{nat_cmp, eq_by_cmp}
 use Rattle.std.specs.Cmp.{unsigned_ties}
-use Rattle.std.proofs.lemmas.Bool.{false≢true, cases_lt, and_parts, and_from}
 use Rattle.std.proofs.lemmas.Bool.Decides.{Decides-eqb}
 use Rattle.std.proofs.lemmas.Map.Made.{is_member-Decides}
-use Rattle.search_laws.specs.GraphLaws.{GraphMeaning, IsLawfulGraph}
-use Rattle.search_laws.specs.LabelLaws.{LabelsMeaning, IsLawfulLabels}
-use Rattle.search_laws.specs.Walks.{ArrivesAt}
-use Rattle.search_laws.specs.Fresh.{RunRides}
-use Rattle.search_laws.specs.declared.given.GivenRuns.{GivenRuns}
-use Rattle.product_search.specs.declared.row.Taken.{Taken}
-use Rattle.product_search.specs.declared.frontier.Scan.{Scan}
-use Rattle.product_search.specs.declared.frontier.Frontier.{Frontier}
-use Rattle.product_search.specs.Reach.{IsReachedAt, IsWithin}
-use Rattle.product_search.specs.Answer.{IsArrival}
-use Rattle.product_search.specs.inside.Waiting.{rows, ways, IsFrontier, IsWanted, Takes}
-use Rattle.product_search.specs.inside.Exploring.{AreGivenReached, ArcIsReached, Offers, IsSuccessor}
-use Rattle.product_search.specs.inside.Searching.{IsSearching, IsScanning, IsSearched, IsOfWay, IsEndAt, IsNoEndAt, GoesTo, EndsWith, end_arrival}
-use Rattle.product_search.proofs.ReachLemmas.{way_reached, row_wanted, wanted_down}
-use Rattle.product_search.proofs.ListLemmas.{within_down, listed_before, listed_wanted}
-use Rattle.product_search.proofs.StepLemmas.{KeepsRows, keeps_same, way_still, wanted_still, reached_same, takes_scanning, scanning_until, scanning_ends, scanning_on}
-use Rattle.product_search.proofs.GivenLemmas.{given_stays}
+use Rattle.search_laws.specs.{GraphMeaning, IsLawfulGraph, LabelsMeaning, IsLawfulLabels, ArrivesAt, RunRides, GivenRuns}
+use Rattle.product_search.specs.{declared.row.Taken.Taken, declared.frontier.Scan.Scan, declared.frontier.Frontier.Frontier, IsReachedAt, IsWithin, IsArrival, inside.rows, inside.ways, inside.IsFrontier, inside.IsWanted, inside.Takes, inside.AreGivenReached, inside.ArcIsReached, inside.Offers, inside.IsSuccessor, inside.IsSearching, inside.IsScanning, inside.IsSearched, inside.IsOfWay, inside.IsEndAt, inside.IsNoEndAt, inside.GoesTo, inside.EndsWith, inside.end_arrival}
+use Rattle.product_search.proofs.{ReachLemmas.way_reached, ReachLemmas.row_wanted, ReachLemmas.wanted_down, ListLemmas.within_down, ListLemmas.listed_before, ListLemmas.listed_wanted, StepLemmas.KeepsRows, StepLemmas.keeps_same, StepLemmas.way_still, StepLemmas.wanted_still, StepLemmas.reached_same, StepLemmas.takes_scanning, StepLemmas.scanning_until, StepLemmas.scanning_ends, StepLemmas.scanning_on, GivenLemmas.given_stays}
 
 -- ---- where the search goes to
 

@@ -1,22 +1,7 @@
 -- What a frontier has after a way was taken, and after items were taken from its queue; and its chains.
-use Rattle.std.proofs.Common.{◌≡◌, ◌≢◌, ℕ, ◌+◌, ◌-◌, ◌*◌, ◌/◌, ◌<◌, ◌≤◌, ◌⊎◌, inl, inr, List, [], ◌∷◌, ◌++◌, length, get_or, Option, Some, None, IfNone, zero, suc, refl, sym, ◌∙◌, ap, subst, arith, Vec, Contains}
-use Rattle.std.specs.Prelude.{◌^◌, slice_get, slice_set, slice_index}
-use Rattle.std.proofs.lemmas.Bool.{cases_eq, cases_lt}
-use Rattle.std.proofs.lemmas.List.{length_push}
-use Rattle.std.proofs.lemmas.List.Elements.{Contains-push_cases}
-use Rattle.std.proofs.lemmas.Option.{slice_get_within, slice_get_cases, slice_get_read}
-use Rattle.std.proofs.Math.Nat.{mul-div_cancel}
-use Rattle.std.specs.declared.alloc.Global.{Global}
-use Rattle.product_search.specs.declared.queue.Item.{Item}
-use Rattle.product_search.specs.declared.queue.Queue.{Queue}
-use Rattle.product_search.specs.declared.row.Reached.{Reached}
-use Rattle.product_search.specs.declared.row.Row.{Row}
-use Rattle.product_search.specs.declared.row.Taken.{Taken}
-use Rattle.product_search.specs.declared.frontier.Scan.{Scan}
-use Rattle.product_search.specs.declared.frontier.Frontier.{Frontier}
-use Rattle.product_search.specs.inside.Queued.{IsQueue, TakesIn, Gives, Turns, Narrows, queue_len}
-use Rattle.product_search.specs.inside.Waiting.{rows, ways, IsAt, IsApart, IsNowhere, chain_of, chain_in, IsLast, IsIndexed, IsClear, HasChainsFrom, IsReachedBy, IsLastWay, Waits, IsFrontier, IsSameBut, IsScanOf, IsPassedOver, Takes, TakesNone, IsReady, GivesItem, PutsAgain, Rearranges, taken_as}
-use Rattle.product_search.specs.inside.Exploring.{IsNoLater, IsGiven, IsTakenAs, Offers}
+use Rattle.plan_base.proofs.Common.{◌≡◌, ◌≢◌, ℕ, ◌+◌, ◌-◌, ◌*◌, ◌/◌, ◌<◌, ◌≤◌, ◌⊎◌, inl, inr, List, [], ◌∷◌, ◌++◌, length, get_or, Option, Some, None, IfNone, zero, suc, refl, sym, ◌∙◌, ap, subst, arith, Vec, Contains, ◌^◌, slice_get, slice_set, slice_index, cases_eq, cases_lt, length_push, Contains-push_cases, slice_get_within, slice_get_cases, slice_get_read, Global}
+use Rattle.std.proofs.Common.{mul-div_cancel}
+use Rattle.product_search.specs.{declared.queue.Item.Item, declared.queue.Queue.Queue, declared.row.Reached.Reached, declared.row.Row.Row, declared.row.Taken.Taken, declared.frontier.Scan.Scan, declared.frontier.Frontier.Frontier, inside.IsQueue, inside.TakesIn, inside.Gives, inside.Turns, inside.Narrows, inside.queue_len, inside.rows, inside.ways, inside.IsAt, inside.IsApart, inside.IsNowhere, inside.chain_of, inside.chain_in, inside.IsLast, inside.IsIndexed, inside.IsClear, inside.HasChainsFrom, inside.IsReachedBy, inside.IsLastWay, inside.Waits, inside.IsFrontier, inside.IsSameBut, inside.IsScanOf, inside.IsPassedOver, inside.Takes, inside.TakesNone, inside.IsReady, inside.GivesItem, inside.PutsAgain, inside.Rearranges, inside.taken_as, inside.IsNoLater, inside.IsGiven, inside.IsTakenAs, inside.Offers}
 
 -- ---- a list of which one element is new
 
@@ -303,9 +288,6 @@ module _ (f : Frontier) (right : IsFrontier f) (v q c : ℕ) (x : Row) (some : c
     go (suc k) e = let p = (last_before.there k e).0 in omega (arith, p, some)
 
 -- ---- the table is cleared
-
-pub behind_first : (count : ℕ) (rs : List Row) (first : List ℕ) → IsIndexed count rs first → HasChainsFrom count rs first 0
-behind_first count rs first indexed v k is = let p = (indexed.first_of v).there k is in (k, omega arith, p.1, p.2, p.3)
 
 pub behind_next : (count : ℕ) (rs : List Row) (old new : List ℕ) (i : ℕ) (x : Row) → slice_get rs i ≡ Some x → HasChainsFrom count rs old i
     → slice_index new (chain_in count x) ≡ 0 → ((v : ℕ) → v ≢ chain_in count x → slice_index new v ≡ slice_index old v) → HasChainsFrom count rs new (i + 1)

@@ -1,21 +1,8 @@
 -- What a search was given before is reached, and stays so.
-use Rattle.std.proofs.Common.{◌≡◌, ℕ, inl, inr, List, [], ◌++◌, sym, ◌∙◌, ap, subst, arith}
-use Rattle.std.specs.Prelude.{All, Contains, ◌≤◌}
-use Rattle.std.proofs.lemmas.List.Elements.{All-weaker, All-contains}
-use Rattle.search_laws.specs.LabelLaws.{LabelsMeaning, AllAfter}
-use Rattle.search_laws.specs.Fresh.{HoldsRun, IsAsGood, HasAsGood, RunRides, AreFresh, AreMoving, AddsMoving, visit_by}
-use Rattle.search_laws.specs.declared.graph.GraphArc.{GraphArc}
-use Rattle.search_laws.specs.declared.graph.Visit.{Visit}
-use Rattle.search_laws.specs.declared.graph.Way.{Way}
-use Rattle.search_laws.specs.declared.given.GivenRun.{GivenRun}
-use Rattle.search_laws.specs.declared.given.GivenRuns.{GivenRuns}
-use Rattle.product_search.specs.declared.row.Reached.{Reached}
-use Rattle.product_search.specs.declared.frontier.Scan.{Scan}
-use Rattle.product_search.specs.declared.frontier.Frontier.{Frontier}
-use Rattle.product_search.specs.inside.Waiting.{IsReachedBy, IsWanted}
-use Rattle.product_search.specs.inside.Exploring.{Offers, WayIsReached, AreGivenReached}
-use Rattle.product_search.proofs.OfferLemmas.{reached_keeps, wanted_same, all_after_weaker}
-use Rattle.product_search.proofs.ReachLemmas.{wanted_down}
+use Rattle.plan_base.proofs.Common.{◌≡◌, ℕ, inl, inr, List, [], ◌++◌, sym, ◌∙◌, ap, subst, arith, All, Contains, ◌≤◌, All-weaker, All-contains}
+use Rattle.search_laws.specs.{LabelsMeaning, AllAfter, HoldsRun, IsAsGood, HasAsGood, RunRides, AreFresh, AreMoving, AddsMoving, visit_by, GraphArc, Visit, Way, GivenRun, GivenRuns}
+use Rattle.product_search.specs.{declared.row.Reached.Reached, declared.frontier.Scan.Scan, declared.frontier.Frontier.Frontier, inside.IsReachedBy, inside.IsWanted, inside.Offers, inside.WayIsReached, inside.AreGivenReached}
+use Rattle.product_search.proofs.{OfferLemmas.reached_keeps, OfferLemmas.wanted_same, OfferLemmas.all_after_weaker, ReachLemmas.wanted_down}
 
 reached_later : (f : Frontier) (v q s t : ℕ) → IsReachedBy f v q s → s ≤ t → IsReachedBy f v q t
 reached_later f v q s t by le = record {

@@ -1,11 +1,8 @@
 -- The hops of an answer as a walk of the graph.
-use Rattle.std.proofs.Common.{ℕ, List, [], ◌∷◌, subst}
-use Rattle.search_laws.specs.GraphLaws.{GraphMeaning}
-use Rattle.search_laws.specs.LabelLaws.{LabelsMeaning, Reads}
-use Rattle.search_laws.specs.Walks.{WalkStep, arc, IsWalk, word_from}
+use Rattle.plan_base.proofs.Common.{ℕ, List, [], ◌∷◌, subst}
+use Rattle.search_laws.specs.{GraphMeaning, LabelsMeaning, Reads, WalkStep, arc, IsWalk, word_from}
 use Rattle.search_laws.proofs.WalkLemmas.{join_read}
-use Rattle.product_search.specs.declared.label.Hop.{Hop}
-use Rattle.product_search.specs.Answer.{AreWalkHops}
+use Rattle.product_search.specs.{Hop, AreWalkHops}
 
 abbrev pub arcs_of : List Hop → List WalkStep
 arcs_of [] = []

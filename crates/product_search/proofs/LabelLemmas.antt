@@ -1,13 +1,7 @@
 -- There is one list of the least labels.
-use Rattle.std.proofs.Common.{◌≡◌, ℕ, zero, suc, ◌⊎◌, List, [], ◌∷◌, Less, inl, inr, refl, sym, ◌∙◌, ap, subst, arith}
-use Rattle.std.specs.Prelude.{Option, Contains, length, ◌≤◌}
-use Rattle.std.specs.Ordering.{ordering_reverse}
-use Rattle.std.proofs.lemmas.List.Elements.{All-contains}
-use Rattle.search_laws.specs.GraphLaws.{GraphMeaning}
-use Rattle.search_laws.specs.LabelLaws.{LabelsMeaning}
-use Rattle.product_search.specs.declared.label.Label.{Label}
-use Rattle.product_search.specs.Reach.{IsLeastAt, IsToList}
-use Rattle.product_search.specs.Listed.{IsBelow, AreAscendingLabels, AreLeastLabels}
+use Rattle.plan_base.proofs.Common.{◌≡◌, ℕ, zero, suc, ◌⊎◌, List, [], ◌∷◌, inl, inr, refl, sym, ◌∙◌, ap, subst, arith, Option, Contains, length, ◌≤◌, ordering_reverse, All-contains, Less}
+use Rattle.search_laws.specs.{GraphMeaning, LabelsMeaning}
+use Rattle.product_search.specs.{Label, IsLeastAt, IsToList, IsBelow, AreAscendingLabels, AreLeastLabels}
 use Rattle.product_search.proofs.CheckLemmas.{label_total}
 
 -- ---- ascending lists with the same labels

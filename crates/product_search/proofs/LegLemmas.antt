@@ -1,16 +1,7 @@
 -- The legs of a product state: what they lead to, and the steady arcs that they tell of.
-use Rattle.std.proofs.Common.{◌≡◌, ℕ, ◌+◌, ◌<◌, ◌≤◌, List, Some, length, get_or, sym, ◌∙◌, ap, subst, arith}
-use Rattle.std.specs.Prelude.{Option, All, slice_index_or}
-use Rattle.std.proofs.lemmas.Option.{slice_get_within, get_or_from_slice_get}
-use Rattle.search_laws.specs.GraphLaws.{GraphMeaning}
-use Rattle.search_laws.specs.LabelLaws.{LabelsMeaning, AllAfter, Follows}
-use Rattle.search_laws.specs.Ways.{IsLeg}
-use Rattle.search_laws.specs.declared.graph.Leg.{Leg}
-use Rattle.product_search.specs.declared.row.Reached.{Reached}
-use Rattle.product_search.specs.declared.frontier.Scan.{Scan}
-use Rattle.product_search.specs.declared.frontier.Frontier.{Frontier}
-use Rattle.product_search.specs.inside.Waiting.{IsReachedBy}
-use Rattle.product_search.specs.inside.Exploring.{IsByLegs, LegIsReached, IsSuccessor, ArcIsReached, way_by}
+use Rattle.plan_base.proofs.Common.{◌≡◌, ℕ, ◌+◌, ◌<◌, ◌≤◌, List, Some, length, get_or, sym, ◌∙◌, ap, subst, arith, Option, All, slice_index_or, slice_get_within, get_or_from_slice_get}
+use Rattle.search_laws.specs.{GraphMeaning, LabelsMeaning, AllAfter, Follows, IsLeg, Leg}
+use Rattle.product_search.specs.{declared.row.Reached.Reached, declared.frontier.Scan.Scan, declared.frontier.Frontier.Frontier, inside.IsReachedBy, inside.IsByLegs, inside.LegIsReached, inside.IsSuccessor, inside.ArcIsReached, inside.way_by}
 use Rattle.product_search.proofs.OfferLemmas.{all_after_weaker}
 
 abbrev pub no_leg : Leg

@@ -1,17 +1,11 @@
 -- Letters as bits.
-use Rattle.std.proofs.Common.{◌≡◌, ℕ, ◌+◌, ◌-◌, ◌^◌, ◌<◌, ◌≤◌, ◌/◌, ◌∙◌, sym, subst, inl, inr, arith}
-use Rattle.std.specs.Prelude.{IsBitSet}
-use Rattle.std.specs.Int.{bit_at}
-use Rattle.std.specs.Int.Bits.{bit_or}
+use Rattle.plan_base.proofs.Common.{◌≡◌, ℕ, ◌+◌, ◌-◌, ◌^◌, ◌<◌, ◌≤◌, ◌/◌, ◌∙◌, sym, subst, inl, inr, arith, IsBitSet, bit_at, bit_or, div-eq_of_lt, cases_lt, bit_at_or}
 use lib.Count.{count_leading_zeros}
-use Rattle.std.proofs.Math.Pow.{pow_mono}
-use Rattle.std.proofs.Math.Nat.{div-eq_of_lt}
-use Rattle.std.proofs.lemmas.Bool.{cases_lt}
+use Rattle.std.proofs.Common.{pow_mono}
 use Rattle.std.proofs.lemmas.Nat.{bit_set_by_shift, leading_length}
-use Rattle.std.proofs.lemmas.Nat.Bits.{bit_at_or, shr_and_one}
-use Rattle.search_laws.specs.Letters.{IsLetterSet, letter_count}
-use Rattle.search_laws.specs.LabelLaws.{LabelsMeaning}
-use Rattle.product_search.specs.inside.MoveTables.{HasLettersBelow, HasLeavingBelow}
+use Rattle.std.proofs.lemmas.Nat.Bits.{shr_and_one}
+use Rattle.search_laws.specs.{IsLetterSet, letter_count, LabelsMeaning}
+use Rattle.product_search.specs.inside.{HasLettersBelow, HasLeavingBelow}
 
 pub bit_from_set : (n k : ℕ) → IsBitSet n k → bit_at n k ≡ 1
 bit_from_set n k set = sym (shr_and_one n k) ∙ (bit_set_by_shift n k).1 set

@@ -1,26 +1,8 @@
 -- A search has more labels than a limit exactly where the list of its labels is longer.
-use Rattle.std.proofs.Common.{ℕ, ◌+◌, ◌<◌, ◌≤◌, List, length, Some, None, inl, inr, sym, subst, arith, filter_map}
-use Rattle.std.specs.Prelude.{Option, All, ◌↔◌, IsTrue, Contains}
-use Rattle.std.proofs.lemmas.Bool.{cases_lt}
-use Rattle.std.proofs.lemmas.List.Elements.{All-contains}
-use Rattle.std.proofs.lemmas.List.Sorted.{length_permutation}
-use Rattle.search_laws.specs.GraphLaws.{GraphMeaning, IsLawfulGraph}
-use Rattle.search_laws.specs.LabelLaws.{LabelsMeaning}
-use Rattle.search_laws.specs.Walks.{ArrivesAt}
-use Rattle.product_search.specs.declared.label.Label.{Label}
-use Rattle.product_search.specs.declared.frontier.Scan.{Scan}
-use Rattle.product_search.specs.declared.frontier.Frontier.{Frontier}
-use Rattle.product_search.specs.Reach.{IsReachedAt, IsWithin, IsToList}
-use Rattle.product_search.specs.Listed.{AreLeastLabels}
-use Rattle.product_search.specs.Answer.{IsArrival}
-use Rattle.product_search.specs.Limits.{IsLabel, HasMoreLabels, StopsAreDue}
-use Rattle.product_search.specs.inside.Waiting.{rows, IsReachedBy}
-use Rattle.product_search.specs.inside.Searching.{IsSearching, IsNoEndAt, GoesTo, HasMoreBefore, label_of_row}
-use Rattle.product_search.proofs.LabelLemmas.{SubList, no_longer}
-use Rattle.product_search.proofs.EndLemmas.{goes_within}
-use Rattle.product_search.proofs.ListLemmas.{all_ascending, all_least, within_down}
-use Rattle.product_search.proofs.ReachLemmas.{IsDoneAt, complete}
-use Rattle.product_search.proofs.SortLemmas.{sorted, sorted_moves, sorted_in_order}
+use Rattle.plan_base.proofs.Common.{ℕ, ◌+◌, ◌<◌, ◌≤◌, List, length, Some, None, inl, inr, sym, subst, arith, filter_map, Option, All, ◌↔◌, IsTrue, Contains, cases_lt, All-contains, length_permutation}
+use Rattle.search_laws.specs.{GraphMeaning, IsLawfulGraph, LabelsMeaning, ArrivesAt}
+use Rattle.product_search.specs.{Label, IsReachedAt, IsWithin, IsToList, AreLeastLabels, IsArrival, IsLabel, HasMoreLabels, StopsAreDue, declared.frontier.Scan.Scan, declared.frontier.Frontier.Frontier, inside.rows, inside.IsReachedBy, inside.IsSearching, inside.IsNoEndAt, inside.GoesTo, inside.HasMoreBefore, inside.label_of_row}
+use Rattle.product_search.proofs.{LabelLemmas.SubList, LabelLemmas.no_longer, EndLemmas.goes_within, ListLemmas.all_ascending, ListLemmas.all_least, ListLemmas.within_down, ReachLemmas.IsDoneAt, ReachLemmas.complete, SortLemmas.sorted, SortLemmas.sorted_moves, SortLemmas.sorted_in_order}
 
 -- ---- what is reached before a delay that nobody waits for, nor for one before it
 

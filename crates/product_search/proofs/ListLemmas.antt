@@ -1,28 +1,8 @@
 -- The list of what is reached before a delay has exactly the least labels, in order.
-use Rattle.std.proofs.Common.{◌≡◌, ℕ, zero, suc, ◌+◌, ◌-◌, ◌^◌, ◌<◌, ◌≤◌, ◌⊎◌, Bool, true, false, ◌&&◌, cond, nat_lt, List, [], ◌∷◌, Less, get_or, Some, None, inl, inr, refl, sym, ◌∙◌, ap, subst, arith}
-use Rattle.std.specs.Prelude.{Option, All, Contains, filter_map, IsSorted, IsPermutation, slice_get, ◌==◌}
-use Rattle.std.specs.List.{AllByRecursion, IsDistinct, cons_option}
-use Rattle.std.specs.Ordering.{is_lt, nat_cmp, ordering_then}
-use Rattle.std.specs.Cmp.{IsTotalOrder}
-use Rattle.std.proofs.lemmas.Bool.{lt-ltb, le-ltb, ltb-true, and_parts, eqb-true, cases_lt}
-use Rattle.std.proofs.lemmas.Bool.Decides.{nat_tests}
-use Rattle.std.proofs.lemmas.Option.{slice_get-get_or}
-use Rattle.std.proofs.lemmas.List.Elements.{All-nil, All-cons, All-head, All-tail, All-contains, Contains-append_right, recursion_from_All}
-use Rattle.std.proofs.lemmas.List.Sorted.{sorted_far, ranks_by, All-permutation, Contains-permutation}
-use Rattle.std.proofs.lemmas.Cmp.{then_total, on_total, nat_cmp_total}
-use Rattle.std.proofs.lemmas.Map.Keys.{IsDistinct-cons, IsDistinct-IsPermutation, apart_from_distinct}
-use Rattle.search_laws.specs.GraphLaws.{GraphMeaning}
-use Rattle.search_laws.specs.LabelLaws.{LabelsMeaning}
-use Rattle.product_search.specs.declared.label.Label.{Label}
-use Rattle.product_search.specs.declared.label.Best.{Best}
-use Rattle.product_search.specs.declared.frontier.Frontier.{Frontier}
-use Rattle.product_search.specs.declared.row.Row.{Row}
-use Rattle.product_search.specs.Reach.{IsReachedAt, IsLeastAt, IsWithin, IsToList}
-use Rattle.product_search.specs.Listed.{label_of, label_order, IsBelow, AreAscendingLabels, AreLeastLabels}
-use Rattle.product_search.specs.Answer.{last_time}
-use Rattle.product_search.specs.Closed.{IsListedBy}
-use Rattle.product_search.specs.inside.Waiting.{rows, IsAt, IsApart, IsFrontier, IsReachedBy, IsWanted}
-use Rattle.product_search.specs.inside.Searching.{AreTraced, EndsWith, IsAnswered, label_of_row, until_of}
+use Rattle.plan_base.proofs.Common.{◌≡◌, ℕ, zero, suc, ◌+◌, ◌-◌, ◌^◌, ◌<◌, ◌≤◌, ◌⊎◌, Bool, true, false, ◌&&◌, cond, nat_lt, List, [], ◌∷◌, get_or, Some, None, inl, inr, refl, sym, ◌∙◌, ap, subst, arith, Option, All, Contains, filter_map, IsSorted, IsPermutation, slice_get, ◌==◌, AllByRecursion, cons_option, is_lt, nat_cmp, ordering_then, IsTotalOrder, lt-ltb, le-ltb, ltb-true, and_parts, eqb-true, cases_lt, nat_tests, slice_get-get_or, All-nil, All-cons, All-head, All-tail, All-contains, Contains-append_right, recursion_from_All, sorted_far, ranks_by, All-permutation, Contains-permutation, then_total, on_total, nat_cmp_total, IsDistinct-cons, IsDistinct-IsPermutation, apart_from_distinct, Less}
+use Rattle.std.specs.List.{IsDistinct}
+use Rattle.search_laws.specs.{GraphMeaning, LabelsMeaning}
+use Rattle.product_search.specs.{Label, IsReachedAt, IsLeastAt, IsWithin, IsToList, label_of, label_order, IsBelow, AreAscendingLabels, AreLeastLabels, last_time, IsListedBy, declared.label.Best.Best, declared.frontier.Frontier.Frontier, declared.row.Row.Row, inside.rows, inside.IsAt, inside.IsApart, inside.IsFrontier, inside.IsReachedBy, inside.IsWanted, inside.AreTraced, inside.EndsWith, inside.IsAnswered, inside.label_of_row, inside.until_of}
 use Rattle.product_search.proofs.ReachLemmas.{row_reached, row_wanted, wanted_down}
 
 -- ---- what `filter_map` gives

@@ -1,8 +1,5 @@
 -- A list that is made item by item.
-use Rattle.std.proofs.Common.{◌≡◌, ℕ, ◌+◌, ◌<◌, ◌≤◌, Bool, true, false, cond, List, [], ◌∷◌, ◌++◌, length, get_or, Some, None, refl, sym, ◌∙◌, ap, subst, arith, filter_map}
-use Rattle.std.specs.Prelude.{Option, option_to_list, take}
-use Rattle.std.proofs.lemmas.List.{length-append, length-take-le, take_all, take_more}
-use Rattle.std.proofs.lemmas.List.Elements.{filter_map-append}
+use Rattle.plan_base.proofs.Common.{◌≡◌, ℕ, ◌+◌, ◌<◌, ◌≤◌, Bool, true, false, cond, List, [], ◌∷◌, ◌++◌, length, get_or, Some, None, refl, sym, ◌∙◌, ap, subst, arith, filter_map, Option, option_to_list, take, length-append, length-take-le, take_all, take_more, filter_map-append}
 use mir.Val.{bool_byte}
 
 module _ {X Y : Type 0} (h : X → Option Y) (xs : List X) where

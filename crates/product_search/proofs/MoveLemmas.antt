@@ -1,16 +1,7 @@
 -- The table of the moves of an automaton, and the states that it has after a letter.
-use Rattle.std.proofs.Common.{◌≡◌, ◌≢◌, ◌==◌, ◌⊎◌, Bool, true, false, if◌then◌else◌, ℕ, zero, suc, ◌+◌, ◌^◌, ◌<◌, ◌≤◌, ◌++◌, ◌∷◌, [], List, Some, length, get_or, add-one, ap, refl, sym, ◌∙◌, subst, inl, inr, arith}
-use Rattle.std.specs.Prelude.{All, Contains, IsBitSet, slice_index_or, slice_set}
-use Rattle.std.specs.Int.{bit_at}
-use Rattle.std.specs.Int.Bits.{bit_and}
-use Rattle.std.proofs.Math.Seq.{get_or-append_seam}
-use Rattle.std.proofs.lemmas.Bool.{cases_lt, eq-eqb, eqb-true}
-use Rattle.std.proofs.lemmas.List.{append-nil, get_or_append_left, get_or-set_same, get_or-set_other, length-set}
-use Rattle.std.proofs.lemmas.List.Elements.{All-contains, All-push, Contains-push, Contains-append_left}
-use Rattle.search_laws.specs.Letters.{IsLetter, letter_count}
-use Rattle.search_laws.specs.LabelLaws.{LabelsMeaning, HasMove, AllAfter}
-use Rattle.search_laws.specs.declared.labels.Move.{Move}
-use Rattle.product_search.specs.inside.MoveTables.{AreTargets, AreTargetsWith, target_by, targets_below}
+use Rattle.plan_base.proofs.Common.{◌≡◌, ◌≢◌, ◌==◌, ◌⊎◌, Bool, true, false, if◌then◌else◌, ℕ, zero, suc, ◌+◌, ◌^◌, ◌<◌, ◌≤◌, ◌++◌, ◌∷◌, [], List, Some, length, get_or, add-one, ap, refl, sym, ◌∙◌, subst, inl, inr, arith, All, Contains, IsBitSet, slice_index_or, slice_set, bit_at, bit_and, get_or-append_seam, cases_lt, eq-eqb, eqb-true, append-nil, get_or_append_left, get_or-set_same, get_or-set_other, length-set, All-contains, All-push, Contains-push, Contains-append_left}
+use Rattle.search_laws.specs.{IsLetter, letter_count, LabelsMeaning, HasMove, AllAfter, Move}
+use Rattle.product_search.specs.inside.{AreTargets, AreTargetsWith, target_by, targets_below}
 use Rattle.product_search.proofs.LetterLemmas.{bit_from_set, set_from_bit}
 
 -- what holds of each element at its place, after one more

@@ -1,27 +1,8 @@
 -- What a search for many targets notes is right, and tells all in the end.
-use Rattle.std.proofs.Common.{◌≡◌, ◌≢◌, ℕ, zero, suc, ◌+◌, ◌-◌, ◌^◌, ◌<◌, ◌≤◌, ◌⊎◌, min, nat_lt, cond, inl, inr, Bool, true, false, List, map, [], ◌∷◌, length, set, replicate, Some, None, refl, sym, ◌∙◌, ap, subst, arith}
-use Rattle.std.specs.Prelude.{Option, IsTrue, Contains, slice_get, slice_index, slice_index_or}
-use Rattle.std.proofs.lemmas.Bool.{cases_eq, cases_lt, ltb-true, ltb-false, false≢true}
-use Rattle.std.proofs.lemmas.List.{get_or-replicate, get_or-set_same, get_or-set_other, get_or_past, get_or-map, length-map, length-replicate}
-use Rattle.std.proofs.lemmas.List.Elements.{Contains-push, Contains-push_cases}
-use Rattle.search_laws.specs.GraphLaws.{GraphMeaning}
-use Rattle.search_laws.specs.LabelLaws.{LabelsMeaning}
-use Rattle.search_laws.specs.Walks.{ArrivesAt}
-use Rattle.search_laws.specs.Fresh.{RunRides}
-use Rattle.search_laws.specs.declared.given.GivenRuns.{GivenRuns}
-use Rattle.product_search.specs.declared.frontier.Scan.{Scan}
-use Rattle.product_search.specs.declared.frontier.Frontier.{Frontier}
-use Rattle.product_search.specs.declared.targets.Noted.{Noted}
-use Rattle.product_search.specs.Reach.{IsReachedAt}
-use Rattle.product_search.specs.Arrivals.{IsArrivalAt, AreArrivals}
-use Rattle.product_search.specs.inside.Places.{IsPlaced, ArePlaces}
-use Rattle.product_search.specs.inside.Noting.{time_by, time_of, AreReached, earlier, IsNoted, IsEndNoted, IsNotedBy, IsEndNotedBy, IsArrivalBy, AreNoted, AreAllTimes}
-use Rattle.product_search.specs.inside.Searching.{IsSearching, IsScanning, IsSearched}
-use Rattle.product_search.specs.inside.Waiting.{rows, IsWanted, Takes}
-use Rattle.product_search.specs.inside.Exploring.{AreGivenReached}
-use Rattle.product_search.proofs.GivenLemmas.{given_stays}
-use Rattle.product_search.proofs.StepLemmas.{takes_scanning, scanning_weaker, scanning_until, scanning_reached}
-use Rattle.product_search.proofs.ReachLemmas.{row_wanted, wanted_down}
+use Rattle.plan_base.proofs.Common.{◌≡◌, ◌≢◌, ℕ, zero, suc, ◌+◌, ◌-◌, ◌^◌, ◌<◌, ◌≤◌, ◌⊎◌, min, nat_lt, cond, inl, inr, Bool, true, false, List, map, [], ◌∷◌, length, set, replicate, Some, None, refl, sym, ◌∙◌, ap, subst, arith, Option, IsTrue, Contains, slice_get, slice_index, slice_index_or, cases_eq, cases_lt, ltb-true, ltb-false, false≢true, get_or-replicate, get_or-set_same, get_or-set_other, get_or_past, get_or-map, length-map, length-replicate, Contains-push, Contains-push_cases}
+use Rattle.search_laws.specs.{GraphMeaning, LabelsMeaning, ArrivesAt, RunRides, GivenRuns}
+use Rattle.product_search.specs.{declared.frontier.Scan.Scan, declared.frontier.Frontier.Frontier, declared.targets.Noted.Noted, IsReachedAt, IsArrivalAt, AreArrivals, inside.IsPlaced, inside.ArePlaces, inside.time_by, inside.time_of, inside.AreReached, inside.earlier, inside.IsNoted, inside.IsEndNoted, inside.IsNotedBy, inside.IsEndNotedBy, inside.IsArrivalBy, inside.AreNoted, inside.AreAllTimes, inside.IsSearching, inside.IsScanning, inside.IsSearched, inside.rows, inside.IsWanted, inside.Takes, inside.AreGivenReached}
+use Rattle.product_search.proofs.{GivenLemmas.given_stays, StepLemmas.takes_scanning, StepLemmas.scanning_weaker, StepLemmas.scanning_until, StepLemmas.scanning_reached, ReachLemmas.row_wanted, ReachLemmas.wanted_down}
 
 -- ---- places
 

@@ -1,33 +1,11 @@
 -- What offers keep and what they add, over single offers and over many.
-use Rattle.std.proofs.Common.{◌≡◌, ℕ, ◌+◌, ◌-◌, ◌^◌, ◌<◌, inl, inr, Some, None, nat_lt, get_or, refl, sym, ◌∙◌, subst, arith}
-use Rattle.std.specs.Prelude.{Option, List, length, slice_index, Contains}
-use Rattle.std.specs.List.{AllWithin}
+use Rattle.plan_base.proofs.Common.{◌≡◌, ℕ, ◌+◌, ◌-◌, ◌^◌, ◌<◌, inl, inr, Some, None, nat_lt, get_or, refl, sym, ◌∙◌, subst, arith, Option, List, length, slice_index, Contains, AllWithin, get_or_default, Contains-get_or}
 use Rattle.std.proofs.lemmas.Bool.{cond_both}
-use Rattle.std.proofs.lemmas.List.{get_or_default}
-use Rattle.std.proofs.lemmas.List.Elements.{AllWithin-more, Contains-get_or}
-use Rattle.search_laws.specs.GraphLaws.{GraphMeaning}
-use Rattle.search_laws.specs.declared.graph.Leg.{Leg}
-use Rattle.search_laws.specs.declared.graph.Way.{Way}
-use Rattle.search_laws.specs.LabelLaws.{LabelsMeaning, AllAfter}
-use Rattle.product_search.specs.declared.row.Reached.{Reached}
-use Rattle.product_search.specs.declared.row.Taken.{Taken}
-use Rattle.product_search.specs.declared.frontier.Frontier.{Frontier}
-use Rattle.product_search.specs.inside.Waiting.{IsReachedBy, IsWanted, delay_at}
-use Rattle.product_search.specs.inside.Exploring.{Offers, IsTakenAs, reached_by, IsReachedIfWanted, LegIsReached, WayIsReached, ArcIsReached, IsStartAt, IsStartAmong, StartIsReached}
+use Rattle.std.proofs.lemmas.List.Elements.{AllWithin-more}
+use Rattle.search_laws.specs.{GraphMeaning, Leg, Way, LabelsMeaning, AllAfter}
+use Rattle.product_search.specs.{declared.row.Reached.Reached, declared.row.Taken.Taken, declared.frontier.Frontier.Frontier, inside.IsReachedBy, inside.IsWanted, inside.delay_at, inside.Offers, inside.IsTakenAs, inside.reached_by, inside.IsReachedIfWanted, inside.LegIsReached, inside.WayIsReached, inside.ArcIsReached, inside.IsStartAt, inside.IsStartAmong, inside.StartIsReached}
 
 -- ---- many offers
-
-pub offers_none : (f : Frontier) (P : ℕ → ℕ → Reached → Type 0) → Offers f f P
-offers_none f P = record {
-  base = refl;
-  until = refl;
-  kept = λ k r known. (r, known, record { node = refl; state = refl; delay = omega arith });
-  changes = λ k r known. inl known;
-  queued = λ t x has. has;
-  stay = λ n w known. known;
-  taken = λ n w known. inl known;
-  count = refl;
-}
 
 -- what was taken has its row still
 taken_keeps : (mid new : Frontier) (P Q : ℕ → ℕ → Reached → Type 0) → Offers mid new Q → (w : Taken) → IsTakenAs mid P w → IsTakenAs new P w

@@ -1,18 +1,7 @@
 -- The buckets of a queue, and what moves between them.
-use Rattle.std.proofs.Common.{◌≡◌, ◌≢◌, ℕ, ◌+◌, ◌-◌, ◌*◌, ◌^◌, ◌<◌, ◌≤◌, ◌⊎◌, inl, inr, Option, Some, None, IfSome, Result, Ok, Err, OnOk, List, [], ◌∷◌, ◌++◌, length, get_or, set, map, zero, suc, refl, sym, ◌∙◌, ap, subst, arith, Vec, Contains, swap_remove, IsPermutation, min}
-use Rattle.std.proofs.lemmas.Bool.{cases_lt, cases_eq}
-use Rattle.std.proofs.lemmas.List.{length-set, length-append, nil_from_length}
-use Rattle.std.proofs.lemmas.List.Elements.{All-contains, All-push, All-same, Contains-append_left, Contains-push, Contains-push_cases}
-use Rattle.std.proofs.lemmas.List.Sorted.{IsPermutation-swap_remove, Contains-permutation, length_permutation}
-use Rattle.std.proofs.lemmas.List.Sums.{sum_by-set, sum_by_push}
-use Rattle.std.proofs.lemmas.Nat.{pow_pos}
-use Rattle.std.proofs.Math.Nat.{mul-le-mul_left}
-use Rattle.std.specs.Option.{option_to_list}
-use Rattle.std.specs.declared.alloc.Global.{Global}
-use Rattle.product_search.specs.declared.queue.Item.{Item}
-use Rattle.product_search.specs.declared.queue.LateItem.{LateItem}
-use Rattle.product_search.specs.declared.queue.Queue.{Queue}
-use Rattle.product_search.specs.inside.Queued.{bucket_of, bucketed_len, begin_at, begin_of, Queued, IsLater, AreBuckets, IsPast, IsQueue, IsEmptyQueue, TakesIn, Gives, PutsAt, PutsLater, Moves, Turns, Narrows}
+use Rattle.plan_base.proofs.Common.{◌≡◌, ◌≢◌, ℕ, ◌+◌, ◌-◌, ◌*◌, ◌^◌, ◌<◌, ◌≤◌, ◌⊎◌, inl, inr, Option, Some, None, IfSome, Result, Ok, Err, OnOk, List, [], ◌∷◌, ◌++◌, length, get_or, set, map, zero, suc, refl, sym, ◌∙◌, ap, subst, arith, Vec, Contains, swap_remove, IsPermutation, min, cases_lt, cases_eq, length-set, length-append, nil_from_length, All-contains, All-push, All-same, Contains-append_left, Contains-push, Contains-push_cases, Contains-permutation, length_permutation, sum_by-set, sum_by_push, pow_pos, mul-le-mul_left, option_to_list, Global}
+use Rattle.std.proofs.lemmas.List.Sorted.{IsPermutation-swap_remove}
+use Rattle.product_search.specs.{declared.queue.Item.Item, declared.queue.LateItem.LateItem, declared.queue.Queue.Queue, inside.bucket_of, inside.bucketed_len, inside.begin_at, inside.begin_of, inside.IsLater, inside.AreBuckets, inside.IsPast, inside.IsQueue, inside.IsEmptyQueue, inside.TakesIn, inside.Gives, inside.PutsAt, inside.PutsLater, inside.Moves, inside.Turns, inside.Narrows, inside.Queued.Queued}
 
 -- ---- lists of buckets
 

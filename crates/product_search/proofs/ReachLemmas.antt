@@ -1,18 +1,8 @@
 -- What is traced is reached by a walk; and where nobody waits, all that walks reach is known.
-use Rattle.std.proofs.Common.{◌≡◌, ℕ, zero, suc, ◌+◌, ◌<◌, ◌≤◌, inl, inr, List, [], ◌∷◌, ◌++◌, Some, refl, sym, ◌∙◌, ap, subst, arith}
-use Rattle.std.specs.Prelude.{option_to_list, slice_get}
-use Rattle.std.proofs.lemmas.List.{get_or_default}
-use Rattle.search_laws.specs.GraphLaws.{GraphMeaning, HasArc, IsLawfulGraph}
-use Rattle.search_laws.specs.LabelLaws.{LabelsMeaning, Reads, Follows, AllAfter}
-use Rattle.search_laws.specs.Walks.{arc, word_from}
+use Rattle.plan_base.proofs.Common.{◌≡◌, ℕ, zero, suc, ◌+◌, ◌<◌, ◌≤◌, inl, inr, List, [], ◌∷◌, ◌++◌, Some, refl, sym, ◌∙◌, ap, subst, arith, option_to_list, slice_get, get_or_default}
+use Rattle.search_laws.specs.{GraphMeaning, HasArc, IsLawfulGraph, LabelsMeaning, Reads, Follows, AllAfter, arc, word_from}
 use Rattle.search_laws.proofs.WalkLemmas.{reads_more, reads_one, walk_more, word_more, walk_rises, walk_known}
-use Rattle.product_search.specs.declared.row.Row.{Row}
-use Rattle.product_search.specs.declared.row.Taken.{Taken}
-use Rattle.product_search.specs.declared.frontier.Frontier.{Frontier}
-use Rattle.product_search.specs.Reach.{IsReachedAt}
-use Rattle.product_search.specs.inside.Waiting.{rows, ways, Waits, IsFrontier, IsReachedBy, IsWanted}
-use Rattle.product_search.specs.inside.Exploring.{ArcIsReached}
-use Rattle.product_search.specs.inside.Searching.{AreTraced, IsTracedTo, IsSearching, IsDone}
+use Rattle.product_search.specs.{declared.row.Row.Row, declared.row.Taken.Taken, declared.frontier.Frontier.Frontier, IsReachedAt, inside.rows, inside.ways, inside.Waits, inside.IsFrontier, inside.IsReachedBy, inside.IsWanted, inside.ArcIsReached, inside.AreTraced, inside.IsTracedTo, inside.IsSearching, inside.IsDone}
 use Rattle.product_search.proofs.OfferLemmas.{all_after_weaker}
 
 -- ---- walks

@@ -1,17 +1,8 @@
 -- Labels can be sorted, so those of an answer are as many as the list of them is long.
-use Rattle.std.proofs.Common.{◌≡◌, ℕ, ◌+◌, zero, suc, Bool, true, false, cond, List, [], ◌∷◌, length, filter_map, get_or, refl, sym, subst, arith}
-use Rattle.std.specs.Prelude.{Option, ⊤, IsSorted, IsPermutation}
-use Rattle.std.specs.Ordering.{is_lt}
-use Rattle.std.proofs.lemmas.List.Sorted.{ranks_by, IsPermutation-refl, IsPermutation-cons, IsPermutation-middle, IsPermutation-trans, length_permutation}
-use Rattle.search_laws.specs.GraphLaws.{GraphMeaning}
-use Rattle.search_laws.specs.LabelLaws.{LabelsMeaning}
-use Rattle.product_search.specs.declared.label.Label.{Label}
-use Rattle.product_search.specs.declared.label.Best.{Best}
-use Rattle.product_search.specs.declared.frontier.Frontier.{Frontier}
-use Rattle.product_search.specs.Reach.{IsWithin}
-use Rattle.product_search.specs.Listed.{label_order, HasLeastLabels}
-use Rattle.product_search.specs.inside.Waiting.{rows}
-use Rattle.product_search.specs.inside.Searching.{IsAnswered, label_of_row}
+use Rattle.plan_base.proofs.Common.{◌≡◌, ℕ, ◌+◌, zero, suc, Bool, true, false, cond, List, [], ◌∷◌, length, filter_map, get_or, refl, sym, subst, arith, Option, ⊤, IsSorted, IsPermutation, is_lt, ranks_by, IsPermutation-trans, length_permutation}
+use Rattle.std.proofs.lemmas.List.Sorted.{IsPermutation-refl, IsPermutation-cons, IsPermutation-middle}
+use Rattle.search_laws.specs.{GraphMeaning, LabelsMeaning}
+use Rattle.product_search.specs.{Label, IsWithin, label_order, HasLeastLabels, declared.label.Best.Best, declared.frontier.Frontier.Frontier, inside.rows, inside.IsAnswered, inside.label_of_row}
 use Rattle.product_search.proofs.ListLemmas.{order_total, least_labels}
 
 abbrev is_less : Label → Label → Bool

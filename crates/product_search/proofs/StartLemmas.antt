@@ -1,16 +1,7 @@
 -- The pairs of starts and start states, and the first of them that is not listed.
-use Rattle.std.proofs.Common.{◌≡◌, ℕ, zero, suc, ◌+◌, ◌<◌, ◌≤◌, true, false, cond, List, [], ◌∷◌, ◌++◌, length, take, drop, map, get_or, slice_index, inl, inr, refl, sym, ◌∙◌, ap, subst, append_assoc, append-nil, add-one, length-append, arith}
-use Rattle.std.specs.Prelude.{Option, Some, None, MatchOption, IsTrue, Contains}
-use Rattle.std.proofs.lemmas.Bool.{cases_lt}
-use Rattle.std.proofs.lemmas.List.{take_more, take-append-drop, map-append, length-map, get_or-map, get_or_default}
-use Rattle.std.proofs.lemmas.List.Elements.{All-append, All-nil, All-cons, All-same, Contains-append_left, Contains-append_right}
-use Rattle.std.proofs.lemmas.List.{get_or_append_left}
-use Rattle.std.proofs.Math.Seq.{get_or-append_seam}
-use Rattle.product_search.specs.Reach.{IsBefore}
-use Rattle.search_laws.specs.LabelLaws.{LabelsMeaning}
-use Rattle.product_search.specs.declared.label.Label.{Label}
-use Rattle.search_laws.specs.Firsts.{HoldsBelow, FailsFirstAt}
-use Rattle.product_search.specs.Closed.{start_states, pairs_at, start_pairs, IsPairListed, AllListed, FailsAt, StartIsListedAt}
+use Rattle.plan_base.proofs.Common.{◌≡◌, ℕ, zero, suc, ◌+◌, ◌<◌, ◌≤◌, true, false, cond, List, [], ◌∷◌, ◌++◌, length, take, drop, map, get_or, slice_index, inl, inr, refl, sym, ◌∙◌, ap, subst, append_assoc, append-nil, add-one, length-append, arith, Option, Some, None, MatchOption, IsTrue, Contains, cases_lt, take_more, take-append-drop, map-append, length-map, get_or-map, get_or_default, All-append, All-nil, All-cons, All-same, Contains-append_left, Contains-append_right, get_or_append_left, get_or-append_seam}
+use Rattle.product_search.specs.{IsBefore, Label, start_states, pairs_at, start_pairs, IsPairListed, AllListed, FailsAt, StartIsListedAt}
+use Rattle.search_laws.specs.{LabelsMeaning, HoldsBelow, FailsFirstAt}
 
 -- ---- the start states below a number
 

@@ -1,23 +1,8 @@
 -- One turn of the search: a product state is taken from the queue, and its arcs are explored.
-use Rattle.std.proofs.Common.{◌≡◌, ℕ, zero, suc, ◌+◌, ◌*◌, ◌-◌, ◌^◌, ◌<◌, ◌≤◌, inl, inr, List, [], Some, None, get_or, length, refl, sym, ◌∙◌, ap, subst, arith}
-use Rattle.std.specs.Prelude.{Option, All, Contains, IsTrue, slice_get, slice_index}
-use Rattle.std.proofs.lemmas.Bool.{cases_lt}
-use Rattle.std.proofs.lemmas.Option.{slice_get_within, slice_get-get_or}
-use Rattle.std.proofs.lemmas.List.Elements.{All-contains}
-use Rattle.search_laws.specs.GraphLaws.{GraphMeaning, HasArc, IsLawfulGraph}
-use Rattle.search_laws.specs.LabelLaws.{LabelsMeaning, IsLawfulLabels, Follows}
-use Rattle.product_search.specs.declared.row.Row.{Row}
-use Rattle.product_search.specs.declared.row.Reached.{Reached}
-use Rattle.product_search.specs.declared.row.Taken.{Taken}
-use Rattle.product_search.specs.declared.frontier.Scan.{Scan}
-use Rattle.product_search.specs.declared.frontier.Frontier.{Frontier}
-use Rattle.product_search.specs.Reach.{IsReachedAt}
-use Rattle.product_search.specs.inside.Waiting.{rows, ways, IsFrontier, IsLastWay, IsReachedBy, IsWanted, IsSameBut, Takes, TakesNone}
-use Rattle.product_search.specs.inside.Queued.{queue_len}
-use Rattle.product_search.specs.inside.Exploring.{IsNoLater, Offers, IsSuccessor, IsStartAmong, StartIsReached, ArcIsReached, reached_by}
-use Rattle.product_search.specs.inside.Searching.{IsTracedTo, IsTraced, AreTraced, IsDone, IsSearching, IsScanning, IsSearched}
-use Rattle.product_search.proofs.OfferLemmas.{reached_keeps, wanted_same, all_after_weaker}
-use Rattle.product_search.proofs.ReachLemmas.{IsDoneAt, NoneWaitsBy, row_reached, complete}
+use Rattle.plan_base.proofs.Common.{◌≡◌, ℕ, zero, suc, ◌+◌, ◌*◌, ◌-◌, ◌^◌, ◌<◌, ◌≤◌, inl, inr, List, [], Some, None, get_or, length, refl, sym, ◌∙◌, ap, subst, arith, Option, All, Contains, IsTrue, slice_get, slice_index, cases_lt, slice_get_within, slice_get-get_or, All-contains}
+use Rattle.search_laws.specs.{GraphMeaning, HasArc, IsLawfulGraph, LabelsMeaning, IsLawfulLabels, Follows}
+use Rattle.product_search.specs.{declared.row.Row.Row, declared.row.Reached.Reached, declared.row.Taken.Taken, declared.frontier.Scan.Scan, declared.frontier.Frontier.Frontier, IsReachedAt, inside.rows, inside.ways, inside.IsFrontier, inside.IsLastWay, inside.IsReachedBy, inside.IsWanted, inside.IsSameBut, inside.Takes, inside.TakesNone, inside.queue_len, inside.IsNoLater, inside.Offers, inside.IsSuccessor, inside.IsStartAmong, inside.StartIsReached, inside.ArcIsReached, inside.reached_by, inside.IsTracedTo, inside.IsTraced, inside.AreTraced, inside.IsDone, inside.IsSearching, inside.IsScanning, inside.IsSearched}
+use Rattle.product_search.proofs.{OfferLemmas.reached_keeps, OfferLemmas.wanted_same, OfferLemmas.all_after_weaker, ReachLemmas.IsDoneAt, ReachLemmas.NoneWaitsBy, ReachLemmas.row_reached, ReachLemmas.complete}
 
 -- a state after a letter, or after none, is in range
 pub state_in_range : (l : LabelsMeaning) → IsLawfulLabels l → (letter : Option ℕ) (q r : ℕ) → q < l.states → Follows l q letter r → r < l.states

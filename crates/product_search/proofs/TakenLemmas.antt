@@ -1,24 +1,8 @@
 -- The arcs that a graph says can be taken, but for what was given before, and what they lead to.
-use Rattle.std.proofs.Common.{◌≡◌, ℕ, ◌<◌, ◌≤◌, ◌+◌, ◌^◌, inl, inr, Bool, true, false, not, nat_eq, List, Some, None, refl, sym, ◌∙◌, ap, subst, arith}
-use Rattle.std.specs.Prelude.{◌⊎◌, Option, All, Contains, IfSome, IsBitSet}
-use Rattle.std.specs.Int.Bits.{bit_and}
-use Rattle.std.proofs.lemmas.Bool.{false≢true, eqb-true, cases_lt, cases_eq}
-use Rattle.std.proofs.lemmas.List.Elements.{All-weaker, All-contains}
-use Rattle.search_laws.specs.Letters.{IsLetter}
-use Rattle.search_laws.specs.GraphLaws.{GraphMeaning, IsLawfulGraph}
-use Rattle.search_laws.specs.LabelLaws.{LabelsMeaning, AllAfter, Follows}
-use Rattle.search_laws.specs.Ways.{is_open, ways_past, IsWay}
-use Rattle.search_laws.specs.Fresh.{RunRides, HasAsGoodOrGiven, StandsStill, AreMoving}
-use Rattle.search_laws.specs.declared.given.GivenRuns.{GivenRuns}
-use Rattle.search_laws.specs.declared.graph.GraphArc.{GraphArc}
-use Rattle.search_laws.specs.declared.graph.Way.{Way}
+use Rattle.plan_base.proofs.Common.{◌≡◌, ℕ, ◌<◌, ◌≤◌, ◌+◌, ◌^◌, inl, inr, Bool, true, false, not, nat_eq, List, Some, None, refl, sym, ◌∙◌, ap, subst, arith, ◌⊎◌, Option, All, Contains, IfSome, IsBitSet, bit_and, false≢true, eqb-true, cases_lt, cases_eq, All-weaker, All-contains}
+use Rattle.search_laws.specs.{IsLetter, GraphMeaning, IsLawfulGraph, LabelsMeaning, AllAfter, Follows, is_open, ways_past, IsWay, RunRides, HasAsGoodOrGiven, StandsStill, AreMoving, GivenRuns, GraphArc, Way}
 use Rattle.search_laws.proofs.WayLemmas.{ways_are, ways_there}
-use Rattle.product_search.specs.declared.row.Reached.{Reached}
-use Rattle.product_search.specs.declared.frontier.Scan.{Scan}
-use Rattle.product_search.specs.declared.frontier.Frontier.{Frontier}
-use Rattle.product_search.specs.inside.MoveTables.{HasLeaving}
-use Rattle.product_search.specs.inside.Waiting.{IsReachedBy}
-use Rattle.product_search.specs.inside.Exploring.{IsByWays, WayIsReached, IsSuccessor, ArcIsReached, AreGivenReached}
+use Rattle.product_search.specs.{declared.row.Reached.Reached, declared.frontier.Scan.Scan, declared.frontier.Frontier.Frontier, inside.HasLeaving, inside.IsReachedBy, inside.IsByWays, inside.WayIsReached, inside.IsSuccessor, inside.ArcIsReached, inside.AreGivenReached}
 use Rattle.product_search.proofs.GivenLemmas.{among_reached}
 
 not_false : (b : Bool) → not b ≡ false → b ≡ true

@@ -1,21 +1,7 @@
 -- The way back through the ways is a walk of the graph.
-use Rattle.std.proofs.Common.{◌≡◌, ◌≢◌, ℕ, zero, suc, ◌+◌, ◌-◌, ◌^◌, ◌<◌, ◌≤◌, List, [], ◌∷◌, ◌++◌, Some, None, refl, sym, ◌∙◌, ap, subst, arith}
-use Rattle.std.specs.Prelude.{Option, IfSome, All, reverse, slice_get, length}
-use Rattle.std.proofs.lemmas.List.{reverse-append}
-use Rattle.std.proofs.lemmas.List.Elements.{All-nil, All-cons}
-use Rattle.std.proofs.lemmas.Option.{slice_get_within}
-use Rattle.search_laws.specs.GraphLaws.{GraphMeaning}
-use Rattle.search_laws.specs.LabelLaws.{LabelsMeaning}
-use Rattle.product_search.specs.declared.label.Hop.{Hop}
-use Rattle.product_search.specs.declared.label.Walk.{Walk}
-use Rattle.product_search.specs.declared.row.Row.{Row}
-use Rattle.product_search.specs.declared.row.Taken.{Taken}
-use Rattle.product_search.specs.declared.frontier.Scan.{Scan}
-use Rattle.product_search.specs.declared.frontier.Frontier.{Frontier}
-use Rattle.product_search.specs.inside.Waiting.{rows, ways}
-use Rattle.product_search.specs.Answer.{IsHop, AreWalkHops, IsWalkFor, IsWalkTo, last_time}
-use Rattle.product_search.specs.inside.Searching.{IsFromStart, IsBehind, IsTracedTo, AreTraced, IsEnd, GoesTo, end_arrival}
-use Rattle.product_search.specs.inside.Trail.{HasParents, IsWayTo, IsWayAt, IsBackTo, IsTrailHop, AreTrail, IsTrailIfAny, IsTrailTo}
+use Rattle.plan_base.proofs.Common.{◌≡◌, ◌≢◌, ℕ, zero, suc, ◌+◌, ◌-◌, ◌^◌, ◌<◌, ◌≤◌, List, [], ◌∷◌, ◌++◌, Some, None, refl, sym, ◌∙◌, ap, subst, arith, Option, IfSome, All, reverse, slice_get, length, reverse-append, All-nil, All-cons, slice_get_within}
+use Rattle.search_laws.specs.{GraphMeaning, LabelsMeaning}
+use Rattle.product_search.specs.{Hop, Walk, IsHop, AreWalkHops, IsWalkFor, IsWalkTo, last_time, declared.row.Row.Row, declared.row.Taken.Taken, declared.frontier.Scan.Scan, declared.frontier.Frontier.Frontier, inside.rows, inside.ways, inside.IsFromStart, inside.IsBehind, inside.IsTracedTo, inside.AreTraced, inside.IsEnd, inside.GoesTo, inside.end_arrival, inside.HasParents, inside.IsWayTo, inside.IsWayAt, inside.IsBackTo, inside.IsTrailHop, inside.AreTrail, inside.IsTrailIfAny, inside.IsTrailTo}
 
 same_way : (f : Frontier) (n : ℕ) (w x : Taken) → slice_get (ways f) n ≡ Some w → slice_get (ways f) n ≡ Some x → w ≡ x
 same_way f n w x is also = let e : Some w ≡ Some x = sym is ∙ also in cc

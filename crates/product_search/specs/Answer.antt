@@ -1,11 +1,7 @@
 -- What a search answers: the least arrival of the walks that count, and a walk that has it.
 use Rattle.std.specs.Prelude.{◌≡◌, ℕ, ◌+◌, ◌^◌, ◌<◌, ◌≤◌, List, [], ◌∷◌, ⊤, Option, Some, None, IfSome, IsTrue, Contains, All}
-use Rattle.search_laws.specs.GraphLaws.{GraphMeaning, HasArc}
-use Rattle.search_laws.specs.LabelLaws.{LabelsMeaning, Follows}
-use Rattle.search_laws.specs.Walks.{ArrivesAt, IsLeast}
-use Rattle.product_search.specs.declared.label.Hop.{Hop}
-use Rattle.product_search.specs.declared.label.Walk.{Walk}
-use Rattle.product_search.specs.declared.label.Found.{Found}
+use Rattle.search_laws.specs.{GraphMeaning, HasArc, LabelsMeaning, Follows, ArrivesAt, IsLeast}
+pub use Rattle.product_search.specs.{declared.label.Hop.Hop, declared.label.Walk.Walk, declared.label.Found.Found}
 use Rattle.product_search.specs.Reach.{IsWithin}
 
 -- the least arrival within the bound, or none where no walk arrives within it

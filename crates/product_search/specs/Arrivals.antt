@@ -1,7 +1,6 @@
 -- What one search answers for many targets: of each the least arrival there.
 use Rattle.std.specs.Prelude.{◌≡◌, ℕ, ◌≤◌, ◌<◌, List, [], ◌∷◌, length, slice_index, slice_index_or, Option, None, IfSome}
-use Rattle.search_laws.specs.GraphLaws.{GraphMeaning}
-use Rattle.search_laws.specs.LabelLaws.{LabelsMeaning}
+use Rattle.search_laws.specs.{GraphMeaning, LabelsMeaning}
 use Rattle.product_search.specs.Answer.{IsArrival, last_time}
 
 -- the least arrival at the node v alone, or none, and no time above the last

@@ -1,14 +1,8 @@
 -- When a list of labels is closed: then no accepted walk reaches a target before the arrival that it goes with.
 use Rattle.std.specs.Prelude.{◌≡◌, ℕ, zero, suc, ◌-◌, ◌<◌, ◌≤◌, ◌⊎◌, List, [], ◌∷◌, ◌++◌, map, length, slice_index_or, Option, Some, MatchOption, IsTrue, Contains, All, if◌then◌else◌}
-use Rattle.search_laws.specs.Firsts.{HoldsBelow, FailsFirstAt}
-use Rattle.search_laws.specs.GraphLaws.{GraphMeaning}
-use Rattle.search_laws.specs.LabelLaws.{LabelsMeaning, AllAfter}
-use Rattle.search_laws.specs.Walks.{ArrivesAt}
-use Rattle.product_search.specs.declared.label.Label.{Label}
-use Rattle.product_search.specs.declared.verdict.LabelVerdict.{LabelVerdict}
-use Rattle.product_search.specs.declared.verdict.LabelVerdict.TheVariants.{Closed, Open}
-use Rattle.product_search.specs.Reach.{IsBefore}
-use Rattle.product_search.specs.Listed.{label_of, IsBelow}
+use Rattle.search_laws.specs.{HoldsBelow, FailsFirstAt, GraphMeaning, LabelsMeaning, AllAfter, ArrivesAt}
+use Rattle.product_search.specs.{declared.label.Label.Label, Reach.IsBefore, Listed.label_of, Listed.IsBelow}
+pub use Rattle.product_search.specs.{declared.verdict.LabelVerdict.LabelVerdict, declared.verdict.LabelVerdict.TheVariants.Closed, declared.verdict.LabelVerdict.TheVariants.Open}
 
 -- the product state has a label that is no later than t
 abbrev pub IsListedBy : List Label → ℕ → ℕ → ℕ → Type 0

@@ -1,14 +1,8 @@
 -- When a search has more labels than a limit, and what a search comes to that may be given up.
 use Rattle.std.specs.Prelude.{ℕ, ◌<◌, ◌↔◌, List, length, Option, Result, Ok, Err, All, ⊤}
-use Rattle.search_laws.specs.GraphLaws.{GraphMeaning}
-use Rattle.search_laws.specs.LabelLaws.{LabelsMeaning}
-use Rattle.search_laws.specs.Walks.{ArrivesAt}
-use Rattle.product_search.specs.declared.label.Label.{Label}
-use Rattle.product_search.specs.declared.limit.Limited.{Limited}
-use Rattle.product_search.specs.declared.limit.Limited.TheVariants.{Ended, Stopped}
-use Rattle.product_search.specs.Reach.{IsLeastAt, IsWithin}
-use Rattle.product_search.specs.Listed.{AreAscendingLabels, AreLeastLabels}
-use Rattle.product_search.specs.Answer.{IsArrival}
+use Rattle.search_laws.specs.{GraphMeaning, LabelsMeaning, ArrivesAt}
+use Rattle.product_search.specs.{declared.label.Label.Label, Reach.IsLeastAt, Reach.IsWithin, Listed.AreAscendingLabels, Listed.AreLeastLabels, Answer.IsArrival}
+pub use Rattle.product_search.specs.{declared.limit.Limited.Limited, declared.limit.Limited.TheVariants.Ended, declared.limit.Limited.TheVariants.Stopped}
 
 -- a label of the search: a product state with its least arrival, within the bound and before each accepted arrival at a target
 pub record IsLabel (g : GraphMeaning) (l : LabelsMeaning) (starts targets : List ℕ) (dep : ℕ) (bound : Option ℕ) (x : Label) : Type 0 where

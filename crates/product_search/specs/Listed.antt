@@ -3,9 +3,8 @@ use Rattle.std.specs.Prelude.{◌≡◌, ℕ, List, length, Contains, All, AllPa
 use Rattle.std.specs.declared.cmp.Ordering.{Ordering}
 use Rattle.std.specs.declared.cmp.Ordering.TheVariants.{Less}
 use Rattle.std.specs.Ordering.{ordering_then, nat_cmp}
-use Rattle.search_laws.specs.GraphLaws.{GraphMeaning}
-use Rattle.search_laws.specs.LabelLaws.{LabelsMeaning}
-use Rattle.product_search.specs.declared.label.Label.{Label}
+use Rattle.search_laws.specs.{GraphMeaning, LabelsMeaning}
+pub use Rattle.product_search.specs.declared.label.Label.{Label}
 use Rattle.product_search.specs.Reach.{IsLeastAt, IsToList}
 
 abbrev pub label_of : ℕ → ℕ → ℕ → Label

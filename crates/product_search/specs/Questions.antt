@@ -1,16 +1,8 @@
 -- What a search is asked, as meanings, and what is found for it.
 use Rattle.std.specs.Prelude.{ℕ, List, Option}
-use Rattle.search_laws.specs.GraphLaws.{GraphMeaning}
-use Rattle.search_laws.specs.LabelLaws.{LabelsMeaning}
-use Rattle.search_laws.specs.declared.graph.Graph.{Ghosts as GraphGhosts}
-use Rattle.search_laws.specs.declared.labels.Labels.{Ghosts as LabelsGhosts}
-use Rattle.product_search.specs.declared.label.Label.{Label}
-use Rattle.product_search.specs.declared.label.Walk.{Walk}
-use Rattle.product_search.specs.declared.question.Question.{Question}
-use Rattle.product_search.specs.Listed.{AreLeastLabels, HasLeastLabels}
-use Rattle.product_search.specs.Answer.{IsArrival, IsWalkFor}
-use Rattle.product_search.specs.Closed.{IsClosed}
-use Rattle.product_search.specs.Limits.{HasMoreLabels}
+use Rattle.search_laws.specs.{GraphMeaning, LabelsMeaning, declared.graph.Graph.Ghosts as GraphGhosts, declared.labels.Labels.Ghosts as LabelsGhosts}
+use Rattle.product_search.specs.{declared.label.Label.Label, declared.label.Walk.Walk, Listed.AreLeastLabels, Listed.HasLeastLabels, Answer.IsArrival, Answer.IsWalkFor, Closed.IsClosed, Limits.HasMoreLabels}
+pub use Rattle.product_search.specs.declared.question.Question.{Question}
 
 -- from the starts at dep to the targets, within the bound
 pub record QuestionMeaning : Type 0 where

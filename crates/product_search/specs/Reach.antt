@@ -1,8 +1,6 @@
 -- Product states and the times at which walks reach them.
 use Rattle.std.specs.Prelude.{ℕ, ◌<◌, ◌≤◌, Bool, true, nat_lt, List, Option, Some, None, Contains, IsTrue, IfSome}
-use Rattle.search_laws.specs.GraphLaws.{GraphMeaning}
-use Rattle.search_laws.specs.LabelLaws.{LabelsMeaning, Reads}
-use Rattle.search_laws.specs.Walks.{WalkStep, IsWalk, word_from}
+use Rattle.search_laws.specs.{GraphMeaning, LabelsMeaning, Reads, WalkStep, IsWalk, word_from}
 
 -- some walk from a start at dep is at v at t, and its word leads from a start state to q
 pub record IsReachedAt (g : GraphMeaning) (l : LabelsMeaning) (starts : List ℕ) (dep v q t : ℕ) : Type 0 where

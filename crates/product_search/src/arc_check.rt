@@ -6,7 +6,7 @@ ghost use Rattle.search_laws.specs.Letters.{IsLetter};
 ghost use Rattle.search_laws.specs.LabelLaws.{AllAfter};
 ghost use Rattle.product_search.specs.Listed.{AreAscendingLabels};
 ghost use Rattle.search_laws.specs.Firsts.{HoldsBelow, FailsFirstAt};
-ghost use Rattle.product_search.specs.Closed.{IsListedBy, IsInOrderAt, ArcIsListed, ArcsAreListed, ArcsAreListedAt};
+ghost use Rattle.product_search.specs.Closed.{IsListedBy, ArcIsListed, ArcsAreListed, ArcsAreListedAt};
 
 use crate::label::Label;
 use crate::listing::is_before;

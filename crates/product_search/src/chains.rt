@@ -1,6 +1,6 @@
 //! The chains in which a search finds the product states that it has reached.
 
-ghost use Rattle.std.specs.Prelude.{◌<◌, ◌≤◌, ◌^◌};
+ghost use Rattle.std.specs.Prelude.{◌<◌, ◌^◌};
 
 /// How many chains all nodes of a graph have together, but for one of each: a table of so many takes 128 MiB.
 const MOST_IN_ALL: u32 = 1 << 25;

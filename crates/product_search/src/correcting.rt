@@ -1,7 +1,7 @@
 //! The main loop: product states are explored by buckets of their times, and again where a better way to one was found, until
 //! nothing before the best end waits.
 
-ghost use Rattle.std.specs.Prelude.{◌≡◌, ◌<◌, ◌≤◌, ◌^◌, ◌&&◌, IfOk};
+ghost use Rattle.std.specs.Prelude.{◌≡◌, ◌<◌, ◌^◌, ◌&&◌, IfOk};
 ghost use Rattle.std.specs.BTreeSet as sorted;
 ghost use Rattle.std.specs.Ordering.{nat_cmp};
 ghost use Rattle.product_search.specs.Questions.{question_of};

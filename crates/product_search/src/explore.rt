@@ -1,8 +1,7 @@
 //! The arcs out of a product state, each offered to the frontier.
 
-ghost use Rattle.std.specs.Prelude.{◌≡◌, ℕ, ◌+◌, ◌<◌, ◌≤◌, ◌^◌, Some, All, OnOk, IfSome, length};
+ghost use Rattle.std.specs.Prelude.{◌≡◌, ℕ, ◌+◌, ◌<◌, ◌≤◌, Some, All, OnOk, IfSome};
 ghost use Rattle.search_laws.specs.Letters.{IsLetter};
-ghost use Rattle.search_laws.specs.LabelLaws.{AllAfter};
 ghost use Rattle.product_search.specs.inside.Waiting.{IsFrontier, IsReachedBy, delay_at};
 ghost use Rattle.product_search.specs.inside.Exploring.{Offers, IsByWay, IsByWays, WayIsReached, IsByLeg, IsByLegs, IsByLegsIn, LegIsReached, IsSuccessor, ArcIsReached, AreGivenReached, IsGiven, IsGivenIn, IsReachedIfWanted, way_by};
 

@@ -1,6 +1,6 @@
 //! The product states from which walks may leave, offered to the frontier.
 
-ghost use Rattle.std.specs.Prelude.{◌≡◌, ℕ, ◌<◌, length, slice_index, OnOk, IsTrue};
+ghost use Rattle.std.specs.Prelude.{ℕ, ◌<◌, length, slice_index, OnOk, IsTrue};
 ghost use Rattle.product_search.specs.inside.Waiting.{IsFrontier, IsReachedBy};
 ghost use Rattle.product_search.specs.inside.Exploring.{Offers, IsStartAt, IsStartAmong, StartIsReached};
 

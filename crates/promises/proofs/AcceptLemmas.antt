@@ -1,25 +1,20 @@
 -- What one command writes another one accepts: it is what the other one asks of its file.
-use Rattle.std.proofs.Common.{◌≡◌, ℕ, ◌⊎◌, inl, inr, List, Option, Some, None, subst}
-use Rattle.hierarchy.specs.Lists.{HierarchyLists}
-use Rattle.hierarchy_file.specs.Causes.{SpellHierarchy}
+use Rattle.plan_base.proofs.Common.{◌≡◌, ℕ, ◌⊎◌, inl, inr, List, Option, Some, None, subst}
+use Rattle.hierarchy.specs.{HierarchyLists}
+use Rattle.hierarchy_file.specs.{SpellHierarchy}
 use Rattle.mode_network.specs.NetworkLists.{NetworkLists}
-use Rattle.run_steps.specs.declared.limits.Limits.{Limits}
+use Rattle.run_steps.specs.{declared.limits.Limits.Limits, WritesText, IsHeld}
 use Rattle.run_steps.specs.declared.outcome.FileRole.TheVariants as role
-use Rattle.run_steps.specs.Sayings.{WritesText}
-use Rattle.run_steps.specs.Complete.{IsHeld}
-use Rattle.hierarchy_commands.specs.Commands.{IsContraction, OnHierarchyIfNamed}
+use Rattle.hierarchy_commands.specs.{IsContraction, OnHierarchyIfNamed}
 use Rattle.hierarchy_commands.proofs.CompleteLemmas.{check_completes}
-use Rattle.answer_commands.specs.Complete.{SpellsValid}
-use Rattle.answer_commands.specs.Outputs.{IsCertificateFor, IsCertified}
+use Rattle.answer_commands.specs.{SpellsValid, IsCertificateFor, IsCertified}
 use Rattle.answer_commands.proofs.CompleteLemmas.{verify_completes}
-use Rattle.late_commands.specs.Complete.{SpellsValidLate}
-use Rattle.late_commands.specs.Outputs.{IsLateCertificateFor, IsLateCertified}
+use Rattle.late_commands.specs.{SpellsValidLate, IsLateCertificateFor, IsLateCertified}
 use Rattle.late_commands.proofs.CompleteLemmas.{verify_latest_completes}
-use Rattle.latest_departure.specs.Limits.{IsWithinLateLabels}
-use Rattle.journey.specs.Best.{IsRefusedBlock}
-use Rattle.planning.specs.Limits.{IsWithinLabels}
-use Rattle.journey.specs.Large.{stopped_block}
-use Rattle.promises.specs.Accepted.{IsBlockOf, WhatContractWritesCheckAccepts, WhatCertifyPrintsVerifyAccepts, WhatCertifyLatestPrintsVerifyLatestAccepts}
+use Rattle.latest_departure.specs.{IsWithinLateLabels}
+use Rattle.journey.specs.{IsRefusedBlock, stopped_block}
+use Rattle.planning.specs.{IsWithinLabels}
+use Rattle.promises.specs.{IsBlockOf, WhatContractWritesCheckAccepts, WhatCertifyPrintsVerifyAccepts, WhatCertifyLatestPrintsVerifyLatestAccepts}
 use Rattle.promises.proofs.RunLemmas.{same_output, region_done, region_again, named_done}
 
 pub what_contract_writes_check_accepts : WhatContractWritesCheckAccepts

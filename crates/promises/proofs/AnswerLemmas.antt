@@ -1,32 +1,18 @@
 -- What `answer` prints, from what is said of a run with its words.
-use Rattle.std.proofs.Common.{◌≡◌, ℕ, ◌++◌, ◌∙◌, inl, inr, List, [], ◌∷◌, Some, None, refl, sym, ap, subst}
-use Rattle.std.specs.Prelude.{⊤}
+use Rattle.plan_base.proofs.Common.{◌≡◌, ℕ, ◌++◌, ◌∙◌, inl, inr, List, [], ◌∷◌, Some, None, refl, sym, ap, subst, ⊤}
 use Rattle.std.specs.List.{concat}
-use Rattle.plan_base.specs.declared.limits.Caps.{Caps}
+use Rattle.plan_base.specs.{Caps}
 use Rattle.plan_base.proofs.MoreWritten.{appended_stays}
-use Rattle.command_words.specs.Requests.{Request, AsksFor, answer}
+use Rattle.command_words.specs.{Request, AsksFor, answer}
 use Rattle.command_words.proofs.PlainForms.{plain_asks}
-use Rattle.hierarchy_commands.specs.Commands.{OnHierarchyIfNamed}
+use Rattle.hierarchy_commands.specs.{OnHierarchyIfNamed}
 use Rattle.mode_network.specs.NetworkLists.{NetworkLists}
-use Rattle.journey.specs.declared.answer.BlockBody.{BlockBody}
-use Rattle.journey.specs.declared.answer.BlockBody.TheVariants.{Journey, Nothing, Refused}
-use Rattle.journey.specs.Best.{HasNone, IsBest, IsBoardedBody, IsRightBody}
-use Rattle.journey.specs.Blocks.{IsBlockText}
-use Rattle.run_steps.specs.declared.limits.Limits.{Limits}
-use Rattle.run_steps.specs.declared.outcome.FileRole.TheVariants.{Queries}
-use Rattle.run_steps.specs.declared.outcome.Outcome.TheVariants.{Done}
-use Rattle.run_steps.specs.Scene.{Scene, with_shelf}
-use Rattle.run_steps.specs.Complete.{Files}
-use Rattle.run_steps.specs.InTurn.{InTurn}
-use Rattle.run_steps.specs.Blocks.{AreBlocks}
-use Rattle.run_steps.specs.QueryLines.{query_lines}
-use Rattle.answer_commands.specs.Answers.{IsAnswer, WritesSettled}
-use Rattle.planner_core.specs.Commands.{says}
-use Rattle.planner_core.specs.Outcomes.{IsOutcome}
-use Rattle.promises.specs.Answer.{AreWords, TellsRight, AsksOrTellsFault, EachBlock, IsPrinted, AnswerPrintsRightBlocks}
-use Rattle.promises.proofs.AskedLemmas.{runs_are_as_asked}
-use Rattle.promises.proofs.LineLemmas.{same_asked, not_both}
-use Rattle.promises.proofs.RunLemmas.{DidReadRegion, region_done, same_output, told_of}
+use Rattle.journey.specs.{BlockBody, Journey, Nothing, Refused, HasNone, IsBest, IsBoardedBody, IsRightBody, IsBlockText}
+use Rattle.run_steps.specs.{declared.limits.Limits.Limits, declared.outcome.FileRole.TheVariants.Queries, Done, with_shelf, Files, AreBlocks, query_lines, Scene.Scene, InTurn.InTurn}
+use Rattle.answer_commands.specs.{IsAnswer, WritesSettled}
+use Rattle.planner_core.specs.{says, IsOutcome}
+use Rattle.promises.specs.{AreWords, TellsRight, AsksOrTellsFault, EachBlock, IsPrinted, AnswerPrintsRightBlocks}
+use Rattle.promises.proofs.{AskedLemmas.runs_are_as_asked, LineLemmas.same_asked, LineLemmas.not_both, RunLemmas.DidReadRegion, RunLemmas.region_done, RunLemmas.same_output, RunLemmas.told_of}
 
 -- ---- what the words ask for
 

@@ -1,9 +1,8 @@
 -- Words ask for one thing, and a run is what is said of that.
-use Rattle.std.proofs.Common.{inl, inr, sym, ◌∙◌, subst}
-use Rattle.std.proofs.lemmas.Option.{same_Some}
-use Rattle.command_words.specs.Requests.{Request}
-use Rattle.planner_core.specs.Commands.{says}
-use Rattle.promises.specs.Asked.{RunsAreAsAsked, WordsAskOneThing}
+use Rattle.plan_base.proofs.Common.{inl, inr, sym, ◌∙◌, subst, same_Some}
+use Rattle.command_words.specs.{Request}
+use Rattle.planner_core.specs.{says}
+use Rattle.promises.specs.{RunsAreAsAsked, WordsAskOneThing}
 
 pub words_ask_one_thing : WordsAskOneThing
 words_ask_one_thing words one other p q = same_Some one other (sym p.asks ∙ q.asks)

@@ -1,16 +1,8 @@
 -- The position automata of an expression have the same moves when they are collapsed, whatever the order of these.
-use Rattle.std.proofs.Common.{◌≡◌, ◌≢◌, ℕ, ◌+◌, ◌-◌, ◌*◌, ◌/◌, ◌%◌, ◌^◌, ◌<◌, Bool, true, false, ◌==◌, ◌&&◌, ◌⊎◌, inl, inr, bit_and, IsBitSet, if◌then◌else◌, refl, sym, ap, ◌∙◌, subst, arith}
-use Rattle.std.proofs.lemmas.Bool.Decides.{nat_tests}
-use Rattle.search_laws.specs.Letters.{transit_letters}
-use Rattle.search_laws.specs.declared.labels.Move.{Move}
-use Rattle.search_laws.specs.LabelLaws.{LabelsMeaning, HasMove}
-use Rattle.automaton.specs.Written.{Written}
-use Rattle.automaton.specs.inside.Rows.{position_rows, entry}
-use Rattle.automaton.specs.States.{IsPositionAutomaton}
-use Rattle.automaton.specs.Collapsed.{move_by, stay, other_move, collapsed}
-use Rattle.automaton.specs.CollapsedLaws.{and_set, set_and, no_bits, move_to}
-use Rattle.automaton.proofs.PositionLemmas.{automaton_of, end, is_position_automaton, steps_of_move, state_count}
-use Rattle.automaton.proofs.SameLemmas.{positions_alike}
+use Rattle.plan_base.proofs.Common.{◌≡◌, ◌≢◌, ℕ, ◌+◌, ◌-◌, ◌*◌, ◌/◌, ◌%◌, ◌^◌, ◌<◌, Bool, true, false, ◌==◌, ◌&&◌, ◌⊎◌, inl, inr, bit_and, IsBitSet, if◌then◌else◌, refl, sym, ap, ◌∙◌, subst, arith, nat_tests}
+use Rattle.search_laws.specs.{transit_letters, Move, LabelsMeaning, HasMove}
+use Rattle.automaton.specs.{Written.Written, inside.position_rows, inside.entry, IsPositionAutomaton, move_by, stay, other_move, collapsed, and_set, set_and, no_bits, move_to}
+use Rattle.automaton.proofs.{PositionLemmas.automaton_of, PositionLemmas.end, PositionLemmas.is_position_automaton, PositionLemmas.steps_of_move, PositionLemmas.state_count, SameLemmas.positions_alike}
 use Rattle.promises.proofs.SearchLemmas.{IsCovered}
 
 -- ---- the moves of position automata

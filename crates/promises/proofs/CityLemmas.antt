@@ -1,12 +1,7 @@
 -- Of each size there is one sample city that keeps the rules of networks.
-use Rattle.std.proofs.Common.{◌≡◌, ℕ, List, map, length, sym, ap, ◌∙◌, subst}
-use Rattle.mode_network.specs.NetworkLists.{NetworkLists}
-use Rattle.mode_network.specs.Rules.{AreInOrder, IsNetwork}
-use Rattle.mode_network.specs.declared.nodes.Node.{Node}
-use Rattle.sample_city.specs.Roads.{city_arcs, road_number}
-use Rattle.sample_city.specs.Stops.{city_links, city_stop_nodes, city_stops}
-use Rattle.sample_city.specs.Trips.{city_trips}
-use Rattle.sample_city.specs.SampleCity.{IsSampleCity}
+use Rattle.plan_base.proofs.Common.{◌≡◌, ℕ, List, map, length, sym, ap, ◌∙◌, subst}
+use Rattle.mode_network.specs.{NetworkLists.NetworkLists, AreInOrder, IsNetwork, Node}
+use Rattle.sample_city.specs.{city_arcs, road_number, city_links, city_stop_nodes, city_stops, city_trips, IsSampleCity}
 use Rattle.promises.proofs.NetworkLemmas.{arcs_once, named_once, same_network}
 
 module _ (n : ℕ) (one other : NetworkLists) (rules : IsNetwork one) (also : IsNetwork other) (is : IsSampleCity n one) (too : IsSampleCity n other) where

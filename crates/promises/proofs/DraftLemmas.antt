@@ -1,38 +1,16 @@
 -- What a map and a feed give are the same lists, list by list.
-use Rattle.std.proofs.Common.{◌≡◌, ℕ, ℤ, ◌+◌, ◌≤◌, Bool, true, false, List, [], ◌∷◌, ◌++◌, map, Option, Some, None, if◌then◌else◌, refl, sym, ap, ap₂, ◌∙◌}
-use Rattle.std.specs.Prelude.{bytes_eq, option_to_list}
-use Rattle.std.specs.List.{AllByRecursion, IsDistinct, flat_map}
-use Rattle.std.specs.List.Sorted.{IsPermutation, IsSorted}
-use Rattle.std.specs.Cmp.{IsTotalOrder}
-use Rattle.std.specs.Ordering.{int_cmp, int_eq, is_eq}
-use Rattle.std.specs.declared.cmp.Ordering.TheVariants.{Equal}
-use Rattle.std.proofs.lemmas.Bool.{false≢true}
-use Rattle.std.proofs.lemmas.Bool.Decides.{Decides-int_eq}
-use Rattle.std.proofs.lemmas.Cmp.{int_cmp_total, nat_cmp_total, on_total, then_total}
-use Rattle.std.proofs.lemmas.Map.Lookups.{exact_signed}
-use Rattle.std.proofs.lemmas.Map.Text.{is_eq-slice_cmp}
-use Rattle.std.proofs.lemmas.Slice.Eq.{bytes_eq-Decides}
-use Rattle.plain_texts.specs.Escape.{escaped}
+use Rattle.plan_base.proofs.Common.{◌≡◌, ℕ, ℤ, ◌+◌, Bool, true, false, List, [], ◌∷◌, ◌++◌, map, Option, Some, None, if◌then◌else◌, refl, sym, ap, ap₂, ◌∙◌, bytes_eq, option_to_list, AllByRecursion, flat_map, IsPermutation, IsSorted, IsTotalOrder, int_cmp, int_eq, is_eq, Equal, false≢true, Decides-int_eq, int_cmp_total, nat_cmp_total, on_total, then_total, exact_signed, is_eq-slice_cmp, bytes_eq-Decides}
+use Rattle.std.specs.List.{IsDistinct}
+use Rattle.plain_texts.specs.{escaped}
 use Rattle.plain_texts.proofs.EscapeLaws.{escaped_of_one}
-use Rattle.plan_base.specs.Modes.{number_of_mode}
-use Rattle.plan_base.specs.declared.modes.Mode.{Mode}
-use Rattle.plan_base.specs.declared.modes.Mode.TheVariants.{Foot, Bike, Car}
-use Rattle.plan_base.specs.declared.places.Place.{Place}
+use Rattle.plan_base.specs.{number_of_mode, Mode, Foot, Bike, Car, Place}
 use Rattle.geo_length.proofs.NearestLaws.{IsNearest-only}
-use Rattle.opl_reader.specs.declared.objects.Amenity.{Amenity}
-use Rattle.opl_reader.specs.declared.objects.Amenity.TheVariants.{Nothing, Parking, BicycleParking, BicycleRental}
-use Rattle.opl_reader.specs.declared.objects.OsmNode.{OsmNode}
-use Rattle.opl_reader.specs.ObjectLists.{AreObjects, ObjectLists}
-use Rattle.road_profile.specs.Arcs.{AreArcsOf, row_cmp}
-use Rattle.road_profile.specs.declared.rows.RoadRow.{RoadRow}
-use Rattle.gtfs_tables.specs.declared.stops.StopRow.{StopRow}
-use Rattle.mode_network.specs.Rules.{name_cmp}
-use Rattle.mode_network.specs.declared.nodes.Node.{Node}
+use Rattle.opl_reader.specs.{Amenity, Nothing, Parking, BicycleParking, BicycleRental, OsmNode, AreObjects, ObjectLists.ObjectLists}
+use Rattle.road_profile.specs.{AreArcsOf, row_cmp, RoadRow}
+use Rattle.gtfs_tables.specs.{StopRow}
+use Rattle.mode_network.specs.{name_cmp, Node}
 use Rattle.mode_network.proofs.RuleLemmas.{names_total}
-use Rattle.region_build.specs.Ends.{AreEnds, End, end_cmp, ends_at, once_behind}
-use Rattle.region_build.specs.Links.{FindsNearest, join, join_links, layer, linked_to, links_at, stop_joins, stop_links, switch_joins, switch_links}
-use Rattle.region_build.specs.StopNames.{entries_from}
-use Rattle.region_build.specs.Switches.{AreSwitches, is_switch, switch_at}
+use Rattle.region_build.specs.{AreEnds, End, end_cmp, ends_at, once_behind, FindsNearest, join, join_links, layer, linked_to, links_at, stop_joins, stop_links, switch_joins, switch_links, entries_from, AreSwitches, is_switch, switch_at}
 use Rattle.region_build.proofs.EndLaws.{end_total, exact_end}
 use Rattle.promises.proofs.OrderLemmas.{ascending_once, distinct_by, distinct_once, sorted_once}
 

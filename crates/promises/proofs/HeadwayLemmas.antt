@@ -1,27 +1,8 @@
 -- Each headway of a feed that files give is of a row of its own.
-use Rattle.std.proofs.Common.{◌≡◌, ℕ, suc, ◌+◌, ◌≤◌, Bool, true, false, ◌&&◌, List, [], ◌∷◌, ◌++◌, length, map, Option, Some, None, Ok, Err, refl, sym, ap, ◌∙◌, subst, arith}
-use Rattle.std.specs.Prelude.{Result, filter_map, nat_eq, option_map}
-use Rattle.std.specs.List.{AllByRecursion, IsDistinct, cons_option}
-use Rattle.std.proofs.lemmas.Bool.Decides.{nat_tests}
-use Rattle.plan_base.specs.declared.limits.Caps.{Caps}
-use Rattle.gtfs_tables.specs.declared.columns.Column.TheVariants.{TripId}
-use Rattle.gtfs_tables.specs.declared.faults.FeedFault.{FeedFault}
-use Rattle.gtfs_tables.specs.declared.files.FeedFiles.{FeedFiles}
-use Rattle.gtfs_tables.specs.declared.frequencies.FrequencyRow.{FrequencyRow}
-use Rattle.gtfs_tables.specs.Answers.{◌>>=◌, faultless}
-use Rattle.gtfs_tables.specs.Columns.{Row}
-use Rattle.gtfs_tables.specs.FeedLists.{FeedLists, bytes_of}
-use Rattle.gtfs_tables.specs.Feeds.{feed_of, missing_file, tables_of}
-use Rattle.gtfs_tables.specs.Frequencies.{Frequency, frequencies, frequency_in, frequency_of, frequency_over, span_in}
-use Rattle.gtfs_tables.specs.Agencies.{agencies}
-use Rattle.gtfs_tables.specs.Stops.{stops}
-use Rattle.gtfs_tables.specs.Routes.{routes}
-use Rattle.gtfs_tables.specs.Services.{services}
-use Rattle.gtfs_tables.specs.ServiceDates.{dates}
-use Rattle.gtfs_tables.specs.Calls.{calls}
-use Rattle.gtfs_tables.specs.TableRows.{TableRow, id_in}
-use Rattle.gtfs_tables.specs.Tables.{Table, given, header_in, judged, missing_column, records_of, row_fault, row_of, rows_behind, rows_below, rows_of_file}
-use Rattle.gtfs_tables.specs.Trips.{place_among, trips}
+use Rattle.plan_base.proofs.Common.{◌≡◌, ℕ, suc, ◌+◌, ◌≤◌, Bool, true, false, ◌&&◌, List, [], ◌∷◌, ◌++◌, length, map, Option, Some, None, Ok, Err, refl, sym, ap, ◌∙◌, subst, arith, Result, filter_map, nat_eq, option_map, AllByRecursion, cons_option, nat_tests}
+use Rattle.std.specs.List.{IsDistinct}
+use Rattle.plan_base.specs.{Caps}
+use Rattle.gtfs_tables.specs.{TripId, FeedFault, FeedFiles, FrequencyRow, ◌>>=◌, faultless, Row, bytes_of, feed_of, missing_file, tables_of, Frequency, frequencies, frequency_in, frequency_of, frequency_over, span_in, agencies, stops, routes, services, dates, calls, TableRow, id_in, Table, given, header_in, judged, missing_column, records_of, row_fault, row_of, rows_behind, rows_below, rows_of_file, place_among, trips, FeedLists.FeedLists}
 
 -- two headways are of one trip and one row of frequencies.txt
 abbrev pub is_same_headway : FrequencyRow → FrequencyRow → Bool

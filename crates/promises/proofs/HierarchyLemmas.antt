@@ -1,18 +1,10 @@
 -- A hierarchy has one verdict: of the clauses one is the first that fails, at one place.
-use Rattle.std.proofs.Common.{◌≡◌, ℕ, ◌⊎◌, inl, inr, List, length, refl, sym, ap, ◌∙◌, subst}
-use Rattle.std.specs.Prelude.{Some, All, slice_get}
-use Rattle.std.specs.List.{HoldsAt}
-use Rattle.std.proofs.lemmas.Option.{same_Some}
-use Rattle.search_laws.specs.Firsts.{HoldsBelow, FailsFirstAt}
+use Rattle.plan_base.proofs.Common.{◌≡◌, ℕ, ◌⊎◌, inl, inr, List, length, refl, sym, ap, ◌∙◌, subst, Some, All, slice_get, HoldsAt, same_Some}
+use Rattle.search_laws.specs.{HoldsBelow, FailsFirstAt}
 use Rattle.search_laws.proofs.FirstLemmas.{first_once}
 use Rattle.mode_network.specs.NetworkLists.{NetworkLists}
-use Rattle.hierarchy.specs.declared.entry.Entry.{Entry}
-use Rattle.hierarchy.specs.declared.verdict.Verdict.{Verdict}
-use Rattle.hierarchy.specs.declared.verdict.Verdict.TheVariants.{Sound, Broken}
-use Rattle.hierarchy.specs.Lists.{HierarchyLists}
-use Rattle.hierarchy.specs.Soundness.{MayStandAt, FitsLayer, IsCovered, IsMade, NodeIsBridged, PairsAreBridged, PairIsBridged}
-use Rattle.hierarchy.specs.FirstBroken.{BridgesFailFirst, FailsFirst, IsSoundnessVerdict}
-use Rattle.promises.specs.Hierarchies.{CheckVerdictIsUnique}
+use Rattle.hierarchy.specs.{Entry, Verdict, Sound, Broken, HierarchyLists, MayStandAt, FitsLayer, IsCovered, IsMade, NodeIsBridged, PairsAreBridged, PairIsBridged, BridgesFailFirst, FailsFirst, IsSoundnessVerdict}
+use Rattle.promises.specs.{CheckVerdictIsUnique}
 
 -- something fails first at one place
 once : (n : ℕ) (P : ℕ → Type 0) (a b : ℕ) → FailsFirstAt n P a → FailsFirstAt n P b → a ≡ b

@@ -1,25 +1,16 @@
 -- A query has one list of labels, and so one number of them, within limits or without.
-use Rattle.std.proofs.Common.{◌≡◌, ℕ, inl, inr, List, length, Option, Some, None, sym, ap, ◌∙◌, subst, arith}
-use Rattle.search_laws.specs.GraphLaws.{GraphMeaning}
-use Rattle.search_laws.specs.LabelLaws.{LabelsMeaning}
-use Rattle.product_search.specs.declared.label.Label.{Label}
-use Rattle.product_search.specs.Limits.{StopsAreDue}
-use Rattle.automaton.specs.Written.{written}
-use Rattle.automaton.specs.States.{IsPositionAutomaton}
-use Rattle.automaton.specs.Collapsed.{collapsed}
-use Rattle.hierarchy.specs.Lists.{HierarchyLists}
-use Rattle.phase_graph.specs.InUse.{IsInUse, starts_in, ends_in}
+use Rattle.plan_base.proofs.Common.{◌≡◌, ℕ, inl, inr, List, length, Option, Some, None, sym, ap, ◌∙◌, subst, arith}
+use Rattle.search_laws.specs.{GraphMeaning, LabelsMeaning}
+use Rattle.product_search.specs.{Label, StopsAreDue}
+use Rattle.automaton.specs.{written, IsPositionAutomaton, collapsed}
+use Rattle.hierarchy.specs.{HierarchyLists}
+use Rattle.phase_graph.specs.{IsInUse, starts_in, ends_in}
 use Rattle.mode_network.specs.NetworkLists.{NetworkLists}
-use Rattle.journey.specs.CopyLists.{AreTheCopies}
-use Rattle.journey.specs.Best.{Asked}
+use Rattle.journey.specs.{AreTheCopies, Asked}
 use Rattle.journey.proofs.CopyLemmas.{one_list_of_copies}
-use Rattle.planning.specs.Plans.{AreTheLabels, AreLabelsOver}
-use Rattle.planning.specs.Settled.{IsLabelCount, IsSettledCount}
-use Rattle.planning.specs.Limits.{SearchHasMore, SearchHasAtMost, IsStoppedLine, IsLineWithin, IsSettledWithin}
-use Rattle.promises.specs.Searches.{LabelsAreUnique}
-use Rattle.promises.proofs.SearchLemmas.{IsCovered, arrival_over, labels_over, labels_once}
-use Rattle.promises.proofs.LineLemmas.{same_asked, not_both}
-use Rattle.promises.proofs.AutomatonLemmas.{positions_covered, collapsed_covered}
+use Rattle.planning.specs.{AreTheLabels, AreLabelsOver, IsLabelCount, IsSettledCount, SearchHasMore, SearchHasAtMost, IsStoppedLine, IsLineWithin, IsSettledWithin}
+use Rattle.promises.specs.{LabelsAreUnique}
+use Rattle.promises.proofs.{SearchLemmas.IsCovered, SearchLemmas.arrival_over, SearchLemmas.labels_over, SearchLemmas.labels_once, LineLemmas.same_asked, LineLemmas.not_both, AutomatonLemmas.positions_covered, AutomatonLemmas.collapsed_covered}
 
 module _ (n : NetworkLists) (h : Option HierarchyLists) (q : Asked) (labels : List Label) (are : AreTheLabels n h q labels)
     (automaton : LabelsMeaning) (positions : IsPositionAutomaton (written q.form) automaton) (origins targets : List ℕ)

@@ -1,9 +1,7 @@
 -- A line asks one thing, or is refused.
-use Rattle.std.proofs.Common.{◌≡◌, ℕ, List, Ok, Err}
+use Rattle.plan_base.proofs.Common.{◌≡◌, ℕ, List, Ok, Err}
 use Rattle.mode_network.specs.NetworkLists.{NetworkLists}
-use Rattle.journey.specs.declared.fault.QueryFault.{QueryFault}
-use Rattle.journey.specs.Queries.{IsRefused}
-use Rattle.journey.specs.Best.{Asked, Asks}
+use Rattle.journey.specs.{QueryFault, IsRefused, Asked, Asks}
 use Rattle.journey.proofs.ReadingLemmas.{reading_is_unique}
 
 module _ (n : NetworkLists) (line : List ℕ) where

@@ -1,16 +1,7 @@
 -- The lists of networks that ascend are fixed by their elements, and networks by their lists.
-use Rattle.std.proofs.Common.{◌≡◌, ℕ, List, map, length, Option, Some, None, refl, ap, ◌∙◌, subst}
-use Rattle.std.specs.Prelude.{option_map, position, not}
-use Rattle.std.specs.List.Sorted.{IsPermutation}
-use Rattle.std.proofs.lemmas.Cmp.{on_total}
-use Rattle.plan_base.specs.declared.limits.Caps.{Caps}
-use Rattle.plan_base.specs.declared.limits.Kind.{Kind}
-use Rattle.plan_base.specs.declared.limits.Kind.TheVariants.{Nodes, Stops, Arcs, Links}
-use Rattle.mode_network.specs.declared.faults.NetFault.{NetFault}
-use Rattle.mode_network.specs.declared.faults.NetFault.TheVariants.{Table}
-use Rattle.mode_network.specs.NetworkLists.{NetworkLists, nodes_of}
-use Rattle.mode_network.specs.Rules.{AreInOrder, IsAscending, arc_cmp, arcs_fault, count_fault, end_or_order_fault, first_fault, first_unsorted, joins_layers, joins_modes, links_fault, lists_fault, name_cmp, node_cmp, or_else, trips_fault, unsorted_fault}
-use Rattle.mode_network.specs.declared.nodes.Arc.{Arc}
+use Rattle.plan_base.proofs.Common.{◌≡◌, ℕ, List, map, length, Option, Some, None, refl, ap, ◌∙◌, subst, option_map, position, not, IsPermutation, on_total}
+use Rattle.plan_base.specs.{Caps, Kind, Nodes, Stops, Arcs, Links}
+use Rattle.mode_network.specs.{NetFault, Table, nodes_of, AreInOrder, IsAscending, arc_cmp, arcs_fault, count_fault, end_or_order_fault, first_fault, first_unsorted, joins_layers, joins_modes, links_fault, lists_fault, name_cmp, node_cmp, or_else, trips_fault, unsorted_fault, Arc, NetworkLists.NetworkLists}
 use Rattle.mode_network.proofs.RuleLemmas.{arcs_total, ascending_from, names_total}
 use Rattle.promises.proofs.OrderLemmas.{ascending_permutation_once, ascends_by}
 

@@ -1,38 +1,15 @@
 -- A map and a feed give over some days one region or one fault.
-use Rattle.std.proofs.Common.{◌≡◌, ℕ, ◌+◌, List, ◌++◌, map, length, Option, None, Ok, Err, sym, ap, ap₂, ◌∙◌, subst}
-use Rattle.std.specs.Prelude.{Result}
-use Rattle.std.specs.List.{IsDistinct}
-use Rattle.std.proofs.lemmas.List.Sorted.{length_permutation}
-use Rattle.std.proofs.lemmas.Option.{none-some, same_Some}
-use Rattle.plan_base.specs.declared.limits.Caps.{Caps}
+use Rattle.plan_base.proofs.Common.{◌≡◌, ℕ, ◌+◌, List, ◌++◌, map, length, Option, None, Ok, Err, sym, ap, ap₂, ◌∙◌, subst, Result, IsDistinct, length_permutation, none-some, same_Some}
+use Rattle.plan_base.specs.{Caps}
 use Rattle.service_days.specs.DaysMeaning.{DaysMeaning}
-use Rattle.timetable_arcs.specs.TripRules.{calls_of}
-use Rattle.timetable_arcs.specs.Trips.{TripLists}
-use Rattle.opl_reader.specs.declared.objects.OsmNode.{OsmNode}
-use Rattle.opl_reader.specs.ObjectLists.{AreObjects, ObjectLists}
-use Rattle.road_profile.specs.Legs.{legs_of, place_of_node}
-use Rattle.road_profile.specs.declared.rows.RoadRow.{RoadRow}
-use Rattle.gtfs_tables.specs.FeedLists.{FeedLists}
-use Rattle.gtfs_tables.specs.Sound.{IsFeed}
-use Rattle.mode_network.specs.NetworkLists.{NetworkLists, nodes_of}
-use Rattle.mode_network.specs.Rules.{AreInOrder, first_fault}
-use Rattle.mode_network.specs.declared.nodes.Arc.{Arc}
-use Rattle.mode_network.specs.declared.nodes.Node.{Node}
-use Rattle.region_build.specs.declared.faults.BuildFault.{BuildFault}
-use Rattle.region_build.specs.Answers.{draft_fault, fault_by}
-use Rattle.region_build.specs.Compiled.{IsDraft}
-use Rattle.region_build.specs.Copies.{expanded, first_back}
-use Rattle.region_build.specs.Ends.{AreEnds, End}
-use Rattle.region_build.specs.Links.{FindsNearest, stop_links, switch_links}
-use Rattle.region_build.specs.Roads.{arcs_of, road_nodes}
-use Rattle.region_build.specs.Sources.{SourceLists}
-use Rattle.region_build.specs.StopNames.{entries_from, stop_entry_nodes, stop_number}
-use Rattle.region_build.specs.Switches.{switch_node}
-use Rattle.promises.specs.Compiled.{CompiledIsUnique, IsBuilt}
-use Rattle.promises.proofs.DraftLemmas.{ends_once, named_apart_once, names_differ, rows_once, stop_links_once, switch_links_once, switches_once}
-use Rattle.promises.proofs.HeadwayLemmas.{headways_apart, is_same_headway}
-use Rattle.promises.proofs.NetworkLemmas.{arcs_once, same_network, ways_ascend}
-use Rattle.promises.proofs.SourceLemmas.{sources_once}
+use Rattle.timetable_arcs.specs.{calls_of, TripLists}
+use Rattle.opl_reader.specs.{OsmNode, AreObjects, ObjectLists.ObjectLists}
+use Rattle.road_profile.specs.{legs_of, place_of_node, RoadRow}
+use Rattle.gtfs_tables.specs.{FeedLists.FeedLists, IsFeed}
+use Rattle.mode_network.specs.{NetworkLists.NetworkLists, nodes_of, AreInOrder, first_fault, Arc, Node}
+use Rattle.region_build.specs.{BuildFault, draft_fault, fault_by, IsDraft, expanded, first_back, AreEnds, End, FindsNearest, stop_links, switch_links, arcs_of, road_nodes, SourceLists, entries_from, stop_entry_nodes, stop_number, switch_node}
+use Rattle.promises.specs.{CompiledIsUnique, IsBuilt}
+use Rattle.promises.proofs.{DraftLemmas.ends_once, DraftLemmas.named_apart_once, DraftLemmas.names_differ, DraftLemmas.rows_once, DraftLemmas.stop_links_once, DraftLemmas.switch_links_once, DraftLemmas.switches_once, HeadwayLemmas.headways_apart, HeadwayLemmas.is_same_headway, NetworkLemmas.arcs_once, NetworkLemmas.same_network, NetworkLemmas.ways_ascend, SourceLemmas.sources_once}
 
 module _ (objects : ObjectLists) (sound : AreObjects objects) (feed : FeedLists) (rules : IsFeed feed) (apart : IsDistinct is_same_headway feed.frequencies) (days : DaysMeaning) (e f : _) (s t : List SourceLists) (n m : NetworkLists)
     (one : IsDraft objects feed days e s n) (other : IsDraft objects feed days f t m) where

@@ -1,24 +1,11 @@
 -- What a run has read and written that did all of its work.
-use Rattle.std.proofs.Common.{◌≡◌, ℕ, ◌≤◌, ◌∙◌, inl, inr, List, ◌++◌, length, Option, Some, None, sym, subst}
-use Rattle.std.specs.Prelude.{⊤, IfSome}
-use Rattle.std.proofs.lemmas.List.{append_cancel_left}
-use Rattle.std.proofs.lemmas.Option.{same_Some}
-use Rattle.plan_base.specs.Shelves.{ShelfMeaning, Told}
-use Rattle.plan_base.specs.Sinks.{SinkMeaning, Appended}
-use Rattle.plan_base.specs.declared.limits.Caps.{Caps}
-use Rattle.mode_network.specs.NetworkLists.{NetworkLists}
-use Rattle.mode_network.specs.Rules.{IsNetwork}
-use Rattle.hierarchy.specs.Lists.{HierarchyLists}
-use Rattle.run_steps.specs.declared.outcome.FileRole.{FileRole}
-use Rattle.run_steps.specs.declared.outcome.FileRole.TheVariants.{Region, Hierarchy}
-use Rattle.run_steps.specs.declared.outcome.Outcome.TheVariants.{Done}
-use Rattle.run_steps.specs.Scene.{Scene, with_shelf}
-use Rattle.run_steps.specs.Sayings.{Saying, OnFile, most_of}
-use Rattle.run_steps.specs.Regions.{OnNetwork, OnRegion, SpellThis}
-use Rattle.run_steps.specs.Complete.{Files, IsRegionHeld}
-use Rattle.hierarchy_commands.specs.Commands.{OnSound, OnHierarchyIfNamed}
-use Rattle.hierarchy_commands.specs.Complete.{IsSoundIfNamed}
-use Rattle.promises.specs.Runs.{StaysIfNamed}
+use Rattle.plan_base.proofs.Common.{◌≡◌, ℕ, ◌≤◌, ◌∙◌, inl, inr, List, ◌++◌, length, Option, Some, None, sym, subst, ⊤, IfSome, append_cancel_left, same_Some}
+use Rattle.plan_base.specs.{ShelfMeaning, Told, SinkMeaning, Appended, Caps}
+use Rattle.mode_network.specs.{NetworkLists.NetworkLists, IsNetwork}
+use Rattle.hierarchy.specs.{HierarchyLists}
+use Rattle.run_steps.specs.{FileRole, Region, Hierarchy, Done, with_shelf, Saying, OnFile, most_of, OnNetwork, OnRegion, SpellThis, Files, IsRegionHeld, Scene.Scene}
+use Rattle.hierarchy_commands.specs.{OnSound, OnHierarchyIfNamed, IsSoundIfNamed}
+use Rattle.promises.specs.{StaysIfNamed}
 
 -- what a shelf tells of its files
 pub told_of : (shelf : ShelfMeaning) (files : Files) (name : List ℕ) → shelf.files ≡ Some files → (P : Option (List ℕ) → Type 0) → Told shelf name P → P (files name)

@@ -1,15 +1,11 @@
 -- What the command `sample` writes for one size, but how many labels its searches have.
-use Rattle.std.proofs.Common.{◌≡◌, ℕ, ◌-◌, ◌++◌, inl, inr, List, [], ◌∷◌, Option, Some, None, refl, sym, ap, ap₂, ◌∙◌, subst, arith}
-use Rattle.mode_network.specs.NetworkLists.{NetworkLists}
-use Rattle.mode_network.specs.Journeys.{Route}
-use Rattle.journey.specs.Best.{Asked, IsBest}
-use Rattle.sample_command.specs.Queries.{sampled_queries}
-use Rattle.sample_command.specs.Times.{AreTimes, IsTravelTime}
-use Rattle.sample_command.specs.Texts.{city_text, times_text}
+use Rattle.plan_base.proofs.Common.{◌≡◌, ℕ, ◌-◌, ◌++◌, inl, inr, List, [], ◌∷◌, Option, Some, None, refl, sym, ap, ap₂, ◌∙◌, subst, arith}
+use Rattle.mode_network.specs.{NetworkLists.NetworkLists, Route}
+use Rattle.journey.specs.{Asked, IsBest}
+use Rattle.sample_command.specs.{sampled_queries, AreTimes, IsTravelTime, city_text, times_text}
 use Rattle.sample_city.proofs.KeepLaws.{city_keeps}
-use Rattle.promises.specs.Samples.{SampleCityIsFaultless, SampleCityIsUnique, SummariesAreAlike}
-use Rattle.promises.proofs.CityLemmas.{city_once}
-use Rattle.promises.proofs.LineLemmas.{same_asked, not_both}
+use Rattle.promises.specs.{SampleCityIsFaultless, SampleCityIsUnique, SummariesAreAlike}
+use Rattle.promises.proofs.{CityLemmas.city_once, LineLemmas.same_asked, LineLemmas.not_both}
 
 pub sample_city_is_unique : SampleCityIsUnique
 sample_city_is_unique n one other rules also is too = city_once n one other rules also is too

@@ -1,13 +1,7 @@
 -- Two automata with the same moves, whatever the order in which these stand, give a search one arrival and the same labels.
-use Rattle.std.proofs.Common.{◌≡◌, ℕ, ◌<◌, List, [], ◌∷◌, IsTrue, refl, sym, ap, subst, arith}
-use Rattle.std.specs.Prelude.{Option, Some, None}
-use Rattle.search_laws.specs.GraphLaws.{GraphMeaning}
-use Rattle.search_laws.specs.LabelLaws.{LabelsMeaning, HasMove, Reads, Accepts}
-use Rattle.search_laws.specs.Walks.{ArrivesAt, word_from}
-use Rattle.product_search.specs.declared.label.Label.{Label}
-use Rattle.product_search.specs.Reach.{IsReachedAt, IsLeastAt}
-use Rattle.product_search.specs.Listed.{AreLeastLabels}
-use Rattle.product_search.specs.Answer.{IsArrival}
+use Rattle.plan_base.proofs.Common.{◌≡◌, ℕ, ◌<◌, List, [], ◌∷◌, IsTrue, refl, sym, ap, subst, arith, Option, Some, None}
+use Rattle.search_laws.specs.{GraphMeaning, LabelsMeaning, HasMove, Reads, Accepts, ArrivesAt, word_from}
+use Rattle.product_search.specs.{Label, IsReachedAt, IsLeastAt, AreLeastLabels, IsArrival}
 use Rattle.product_search.proofs.LabelLemmas.{labels_unique}
 
 -- the other automaton has each move of the one, which leads to a state of it

@@ -1,12 +1,11 @@
 -- What is counted for query lines comes to one sum.
-use Rattle.std.proofs.Common.{◌≡◌, ℕ, ◌+◌, inl, inr, List, [], ◌∷◌, Option, sym, ap₂, ◌∙◌}
-use Rattle.product_search.specs.Limits.{StopsAreDue}
-use Rattle.hierarchy.specs.Lists.{HierarchyLists}
+use Rattle.plan_base.proofs.Common.{◌≡◌, ℕ, ◌+◌, inl, inr, List, [], ◌∷◌, Option, sym, ap₂, ◌∙◌}
+use Rattle.product_search.specs.{StopsAreDue}
+use Rattle.hierarchy.specs.{HierarchyLists}
 use Rattle.mode_network.specs.NetworkLists.{NetworkLists}
-use Rattle.run_steps.specs.declared.limits.Limits.{Limits}
-use Rattle.run_steps.specs.Blocks.{AreCounted}
-use Rattle.answer_commands.specs.Answers.{IsAnswerCount}
-use Rattle.promises.specs.Settled.{SettledIsUnique}
+use Rattle.run_steps.specs.{declared.limits.Limits.Limits, AreCounted}
+use Rattle.answer_commands.specs.{IsAnswerCount}
+use Rattle.promises.specs.{SettledIsUnique}
 use Rattle.promises.proofs.LabelsLemmas.{settled_within_once}
 
 -- where what is counted for a line is one number, it is so for lines

@@ -1,28 +1,11 @@
 -- What the tables of a feed say of its trips is one thing.
-use Rattle.std.proofs.Common.{◌≡◌, ℕ, zero, suc, ◌+◌, ◌/◌, ◌%◌, ◌≤◌, Bool, true, false, ◌==◌, ◌&&◌, List, [], ◌∷◌, refl, sym, ap, ap₂, ◌∙◌, subst, arith}
-use Rattle.std.specs.Prelude.{filter, nat_eq}
-use Rattle.std.specs.Int.{bit_at}
-use Rattle.std.specs.List.{IsDistinct}
-use Rattle.std.specs.Cmp.{IsTotalOrder}
-use Rattle.std.specs.Ordering.{nat_cmp, ordering_then}
-use Rattle.std.specs.declared.cmp.Ordering.{Ordering}
-use Rattle.std.specs.declared.cmp.Ordering.TheVariants.{Equal}
-use Rattle.std.proofs.lemmas.Bool.Decides.{nat_tests}
-use Rattle.std.proofs.lemmas.Cmp.{nat_cmp_total, on_total, then_total}
-use Rattle.std.proofs.lemmas.Map.Lookups.{exact_pairs, exact_unsigned}
-use Rattle.std.proofs.lemmas.Nat.Bits.{bit_at-lt, bit_at-suc, bit_at_lowest}
-use Rattle.plan_base.specs.declared.days.DaySet.{DaySet}
+use Rattle.plan_base.proofs.Common.{◌≡◌, ℕ, zero, suc, ◌+◌, ◌/◌, ◌%◌, ◌≤◌, Bool, true, false, ◌==◌, ◌&&◌, List, [], ◌∷◌, refl, sym, ap, ap₂, ◌∙◌, subst, arith, filter, nat_eq, bit_at, IsDistinct, IsTotalOrder, nat_cmp, ordering_then, Ordering, Equal, nat_tests, nat_cmp_total, on_total, then_total, exact_pairs, exact_unsigned, bit_at-lt}
+use Rattle.std.proofs.lemmas.Nat.Bits.{bit_at-suc, bit_at_lowest}
+use Rattle.plan_base.specs.{DaySet}
 use Rattle.service_days.specs.DaysMeaning.{DaysMeaning}
-use Rattle.gtfs_tables.specs.FeedLists.{FeedLists}
-use Rattle.gtfs_tables.specs.Sound.{IsFeed, is_same_call}
-use Rattle.gtfs_tables.specs.declared.calls.CallRow.{CallRow}
-use Rattle.gtfs_tables.specs.declared.frequencies.FrequencyRow.{FrequencyRow}
-use Rattle.gtfs_tables.specs.declared.trips.TripRow.{TripRow}
-use Rattle.region_build.specs.Groups.{is_of, trip_of_call, trip_of_frequency}
-use Rattle.region_build.specs.Services.{AreDaysOf}
-use Rattle.region_build.specs.Sources.{AreCallsInOrder, AreFrequenciesInOrder, AreSourcesFrom, AreTripSources, IsSource, SourceLists}
-use Rattle.promises.proofs.HeadwayLemmas.{is_same_headway}
-use Rattle.promises.proofs.OrderLemmas.{distinct_once}
+use Rattle.gtfs_tables.specs.{FeedLists.FeedLists, IsFeed, is_same_call, CallRow, FrequencyRow, TripRow}
+use Rattle.region_build.specs.{is_of, trip_of_call, trip_of_frequency, AreDaysOf, AreCallsInOrder, AreFrequenciesInOrder, AreSourcesFrom, AreTripSources, IsSource, SourceLists}
+use Rattle.promises.proofs.{HeadwayLemmas.is_same_headway, OrderLemmas.distinct_once}
 
 -- ---- days
 

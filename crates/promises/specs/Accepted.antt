@@ -1,13 +1,12 @@
 -- What one command writes another one accepts.
 use Rattle.std.specs.Prelude.{◌≡◌, ℕ, ◌⊎◌, List, Option}
-use Rattle.plan_base.specs.declared.limits.Caps.{Caps}
-use Rattle.journey.specs.Texts.{block_text}
-use Rattle.run_steps.specs.declared.limits.Limits.{Limits}
+use Rattle.plan_base.specs.{Caps}
+use Rattle.journey.specs.{block_text}
+use Rattle.run_steps.specs.{declared.limits.Limits.Limits, Files}
 use Rattle.run_steps.specs.declared.outcome.FileRole.TheVariants as role
-use Rattle.run_steps.specs.Complete.{Files}
-use Rattle.hierarchy_commands.specs.Commands.{SaysCheck, SaysContract}
-use Rattle.answer_commands.specs.Commands.{SaysCertify, SaysVerify}
-use Rattle.late_commands.specs.Commands.{SaysCertifyLatest, SaysVerifyLatest}
+use Rattle.hierarchy_commands.specs.{SaysCheck, SaysContract}
+use Rattle.answer_commands.specs.{SaysCertify, SaysVerify}
+use Rattle.late_commands.specs.{SaysCertifyLatest, SaysVerifyLatest}
 use Rattle.promises.specs.Runs.{Wrote, Succeeds, IsStored, StaysIfNamed}
 
 -- what `contract` wrote of a region, kept in a file, `check` calls sound for this region

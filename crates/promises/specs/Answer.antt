@@ -2,24 +2,14 @@
 -- right.
 use Rattle.std.specs.Prelude.{◌≡◌, ℕ, ◌⊎◌, List, [], ◌∷◌, codes, Option, Some, None}
 use Rattle.std.specs.List.{concat}
-use Rattle.plan_base.specs.declared.limits.Caps.{Caps}
-use Rattle.command_line.specs.PlainWords.{IsPlainWord}
-use Rattle.mode_network.specs.NetworkLists.{NetworkLists}
-use Rattle.mode_network.specs.Journeys.{Route}
-use Rattle.mode_network.specs.Rules.{IsNetwork}
-use Rattle.region_file.specs.Lines.{IsRegion}
-use Rattle.region_file.specs.Regions.{AreSpelling}
-use Rattle.journey.specs.declared.answer.BlockBody.TheVariants.{Journey, Nothing, Refused}
-use Rattle.journey.specs.declared.fault.QueryFault.{QueryFault}
-use Rattle.journey.specs.Queries.{IsRefused}
-use Rattle.journey.specs.Best.{Asked, Asks}
-use Rattle.journey.specs.Blocks.{IsBlockText}
-use Rattle.run_steps.specs.Complete.{Files}
-use Rattle.run_steps.specs.QueryLines.{query_lines}
-use Rattle.run_steps.specs.Regions.{SpellThis}
-use Rattle.planner_core.specs.Outcomes.{IsOutcome}
-use Rattle.promises.specs.Right.{IsRight}
-use Rattle.promises.specs.Runs.{Wrote}
+use Rattle.plan_base.specs.{Caps}
+use Rattle.command_line.specs.{IsPlainWord}
+use Rattle.mode_network.specs.{NetworkLists.NetworkLists, Route, IsNetwork}
+use Rattle.region_file.specs.{IsRegion, AreSpelling}
+use Rattle.journey.specs.{Journey, Nothing, Refused, QueryFault, IsRefused, Asked, Asks, IsBlockText}
+use Rattle.run_steps.specs.{Files, query_lines, SpellThis}
+use Rattle.planner_core.specs.{IsOutcome}
+use Rattle.promises.specs.{Right.IsRight, Runs.Wrote}
 
 -- ---- the words
 

@@ -1,13 +1,9 @@
 -- What a run is, by what its words ask for.
 use Rattle.std.specs.Prelude.{◌≡◌, ℕ, ◌⊎◌, ⊤, List}
-use Rattle.plan_base.specs.declared.limits.Caps.{Caps}
-use Rattle.command_words.specs.Requests.{AsksFor, Request}
-use Rattle.run_steps.specs.declared.outcome.Outcome.{Outcome}
-use Rattle.run_steps.specs.declared.outcome.Outcome.TheVariants.{OutOfMemory}
-use Rattle.run_steps.specs.Scene.{Scene}
-use Rattle.run_steps.specs.Sayings.{Ends}
-use Rattle.planner_core.specs.Commands.{says}
-use Rattle.planner_core.specs.Outcomes.{IsOutcome}
+use Rattle.plan_base.specs.{Caps}
+use Rattle.command_words.specs.{AsksFor, Request}
+use Rattle.run_steps.specs.{Outcome, OutOfMemory, Ends, Scene.Scene}
+use Rattle.planner_core.specs.{says, IsOutcome}
 
 -- words ask for no two things
 abbrev pub WordsAskOneThing : Type 0

@@ -1,16 +1,11 @@
 -- What a map and a feed give over some days is one thing.
 use Rattle.std.specs.Prelude.{◌≡◌, None, Result, Ok, Err}
-use Rattle.plan_base.specs.declared.limits.Caps.{Caps}
+use Rattle.plan_base.specs.{Caps}
 use Rattle.service_days.specs.DaysMeaning.{DaysMeaning}
-use Rattle.opl_reader.specs.ObjectLists.{AreObjects, ObjectLists}
-use Rattle.gtfs_tables.specs.declared.files.FeedFiles.{FeedFiles}
-use Rattle.gtfs_tables.specs.FeedLists.{FeedLists}
-use Rattle.gtfs_tables.specs.Feeds.{feed_of}
-use Rattle.gtfs_tables.specs.Sound.{IsFeed}
-use Rattle.mode_network.specs.NetworkLists.{NetworkLists}
-use Rattle.mode_network.specs.Rules.{first_fault}
-use Rattle.region_build.specs.declared.faults.BuildFault.{BuildFault}
-use Rattle.region_build.specs.Answers.{HasFault, IsCompiled}
+use Rattle.opl_reader.specs.{AreObjects, ObjectLists.ObjectLists}
+use Rattle.gtfs_tables.specs.{FeedFiles, feed_of, IsFeed, FeedLists.FeedLists}
+use Rattle.mode_network.specs.{NetworkLists.NetworkLists, first_fault}
+use Rattle.region_build.specs.{BuildFault, HasFault, IsCompiled}
 
 -- a region, which breaks no rule of networks; or the first fault
 abbrev pub IsBuilt : Caps → ObjectLists → FeedLists → DaysMeaning → Result NetworkLists BuildFault → Type 0

@@ -1,9 +1,7 @@
 -- The verdict on a hierarchy is one.
 use Rattle.std.specs.Prelude.{◌≡◌}
 use Rattle.mode_network.specs.NetworkLists.{NetworkLists}
-use Rattle.hierarchy.specs.declared.verdict.Verdict.{Verdict}
-use Rattle.hierarchy.specs.Lists.{HierarchyLists}
-use Rattle.hierarchy.specs.FirstBroken.{IsSoundnessVerdict}
+use Rattle.hierarchy.specs.{Verdict, HierarchyLists, IsSoundnessVerdict}
 
 -- Two verdicts that may be given of one region and one hierarchy are the same: it is sound, or one clause is
 -- the first that fails, at one place.

@@ -1,11 +1,6 @@
 -- Runs of the planner whose shelf and whose output tell what they hold.
 use Rattle.std.specs.Prelude.{◌≡◌, ℕ, ◌≤◌, ⊤, List, ◌++◌, length, Option, Some, IfSome}
-use Rattle.run_steps.specs.declared.outcome.FileRole.{FileRole}
-use Rattle.run_steps.specs.declared.outcome.Outcome.{Outcome}
-use Rattle.run_steps.specs.declared.outcome.Outcome.TheVariants.{Done}
-use Rattle.run_steps.specs.Scene.{Scene}
-use Rattle.run_steps.specs.Sayings.{Saying, most_of}
-use Rattle.run_steps.specs.Complete.{Files, IsQuiet, IsDoneOrMemory}
+use Rattle.run_steps.specs.{FileRole, Outcome, Done, Saying, most_of, Files, IsQuiet, IsDoneOrMemory, Scene.Scene}
 
 -- a run of which this is said had these files, did all of its work, and wrote this
 pub record Wrote (S : Saying) (files : Files) (out : List ℕ) : Type 0 where

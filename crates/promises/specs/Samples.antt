@@ -1,12 +1,10 @@
 -- What the command `sample` writes for one size.
 use Rattle.std.specs.Prelude.{◌≡◌, ℕ, ◌≤◌, List, ◌++◌, Option, None}
-use Rattle.plan_base.specs.declared.limits.Caps.{Caps}
-use Rattle.mode_network.specs.NetworkLists.{NetworkLists}
-use Rattle.mode_network.specs.Rules.{IsNetwork, first_fault}
-use Rattle.run_steps.specs.Regions.{AreFull}
-use Rattle.sample_city.specs.SampleCity.{IsSampleCity}
-use Rattle.sample_command.specs.Summary.{IsSummary}
-use Rattle.sample_command.specs.Texts.{city_text, times_text}
+use Rattle.plan_base.specs.{Caps}
+use Rattle.mode_network.specs.{NetworkLists.NetworkLists, IsNetwork, first_fault}
+use Rattle.run_steps.specs.{AreFull}
+use Rattle.sample_city.specs.{IsSampleCity}
+use Rattle.sample_command.specs.{IsSummary, city_text, times_text}
 
 -- there is one sample city of each size that keeps the rules of networks
 abbrev pub SampleCityIsUnique : Type 0

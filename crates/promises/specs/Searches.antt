@@ -1,10 +1,10 @@
 -- The labels of searches are one list.
 use Rattle.std.specs.Prelude.{◌≡◌, List, Option}
-use Rattle.product_search.specs.declared.label.Label.{Label}
-use Rattle.hierarchy.specs.Lists.{HierarchyLists}
+use Rattle.product_search.specs.{Label}
+use Rattle.hierarchy.specs.{HierarchyLists}
 use Rattle.mode_network.specs.NetworkLists.{NetworkLists}
-use Rattle.journey.specs.Best.{Asked}
-use Rattle.planning.specs.Plans.{AreTheLabels}
+use Rattle.journey.specs.{Asked}
+use Rattle.planning.specs.{AreTheLabels}
 
 -- for a network, a hierarchy or none, and what is asked there is one list of labels
 abbrev pub LabelsAreUnique : Type 0

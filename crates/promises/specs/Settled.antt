@@ -1,10 +1,9 @@
 -- What is counted of the labels of searches is one sum.
 use Rattle.std.specs.Prelude.{◌≡◌, ℕ, List, Option}
-use Rattle.hierarchy.specs.Lists.{HierarchyLists}
+use Rattle.hierarchy.specs.{HierarchyLists}
 use Rattle.mode_network.specs.NetworkLists.{NetworkLists}
-use Rattle.run_steps.specs.declared.limits.Limits.{Limits}
-use Rattle.run_steps.specs.Blocks.{AreCounted}
-use Rattle.answer_commands.specs.Answers.{IsAnswerCount}
+use Rattle.run_steps.specs.{declared.limits.Limits.Limits, AreCounted}
+use Rattle.answer_commands.specs.{IsAnswerCount}
 
 -- For a network, a hierarchy or none, limits and query lines there is one sum of labels, which `answer` tells
 -- behind `settled`.

@@ -1,32 +1,13 @@
 -- The road arcs of a map join numbers of one mode, and ascend.
-use Rattle.std.proofs.Common.{◌≡◌, ℕ, suc, List, [], ◌∷◌, ◌++◌, length, Bool, true, false, not, Option, None, Some, refl, sym, ap, ◌∙◌, arith}
-use Rattle.std.specs.Prelude.{nat_eq, nat_lt, ◌==◌, option_to_list}
-use Rattle.std.specs.Cmp.{IsTotalOrder, int_cmp_total, nat_cmp_total}
-use Rattle.std.specs.List.{All, AllPairs, position, position_or_len}
-use Rattle.std.specs.declared.cmp.Ordering.TheVariants.{Less, Equal}
-use Rattle.std.proofs.lemmas.Bool.{and_from, false_from_ne_true}
-use Rattle.std.proofs.lemmas.Bool.Decides.{nat_tests}
-use Rattle.std.proofs.lemmas.Cmp.{on_total, then_total, tied_itself}
-use Rattle.std.proofs.lemmas.List.Elements.{All-cons, All-head, All-nil, All-tail}
-use Rattle.std.proofs.lemmas.List.Sorted.{All-permutation}
-use Rattle.std.proofs.lemmas.Option.{same_Some}
-use Rattle.plan_base.specs.declared.limits.Kind.TheVariants.{Arcs}
+use Rattle.plan_base.proofs.Common.{◌≡◌, ℕ, suc, List, [], ◌∷◌, ◌++◌, length, Bool, true, false, not, Option, None, Some, refl, sym, ap, ◌∙◌, arith, nat_eq, nat_lt, ◌==◌, option_to_list, IsTotalOrder, int_cmp_total, nat_cmp_total, All, AllPairs, position, position_or_len, Less, Equal, and_from, false_from_ne_true, nat_tests, on_total, then_total, tied_itself, All-cons, All-head, All-nil, All-tail, All-permutation, same_Some}
+use Rattle.plan_base.specs.{Arcs, number_of_mode}
 use Rattle.opl_reader.specs.ObjectLists.{ObjectLists}
-use Rattle.road_profile.specs.Arcs.{JoinsPlaces, row_cmp}
-use Rattle.road_profile.specs.declared.rows.RoadRow.{RoadRow}
+use Rattle.road_profile.specs.{JoinsPlaces, row_cmp, RoadRow}
 use Rattle.road_profile.proofs.EndLaws.{arcs_joined}
-use Rattle.plan_base.specs.Modes.{number_of_mode}
 use Rattle.mode_network.proofs.RuleLemmas.{mode_is_same}
-use Rattle.mode_network.specs.NetworkLists.{mode_at}
-use Rattle.mode_network.specs.Rules.{arc_cmp, end_or_order_fault, first_unsorted, is_same_mode, joins_modes}
-use Rattle.mode_network.specs.declared.nodes.Arc.{Arc}
-use Rattle.mode_network.specs.declared.nodes.Node.{Node}
-use Rattle.region_build.specs.Compiled.{AreRoads}
-use Rattle.region_build.specs.Ends.{End, number_of_end}
-use Rattle.region_build.specs.Roads.{arc_between, arc_by_row, arcs_of}
-use Rattle.region_build.proofs.EndLaws.{mode_of_number, number_same}
-use Rattle.region_build.proofs.OrderLaws.{None_of, Once, none_cons, once_cons, once_nil, once_permutation, rises_from_sorted, rises_sorted, same_key}
-use Rattle.region_build.proofs.PartLaws.{flat_map-if}
+use Rattle.mode_network.specs.{mode_at, arc_cmp, end_or_order_fault, first_unsorted, is_same_mode, joins_modes, Arc, Node}
+use Rattle.region_build.specs.{AreRoads, End, number_of_end, arc_between, arc_by_row, arcs_of}
+use Rattle.region_build.proofs.{EndLaws.mode_of_number, EndLaws.number_same, OrderLaws.None_of, OrderLaws.Once, OrderLaws.none_cons, OrderLaws.once_cons, OrderLaws.once_nil, OrderLaws.once_permutation, OrderLaws.rises_from_sorted, OrderLaws.rises_sorted, OrderLaws.same_key, PartLaws.flat_map-if}
 
 pub arc_total : IsTotalOrder arc_cmp
 arc_total = then_total (on_total (λ (arc : Arc). arc.from) nat_cmp_total) (on_total (λ (arc : Arc). arc.to) nat_cmp_total)

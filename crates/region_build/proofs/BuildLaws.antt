@@ -1,29 +1,12 @@
 -- What a map and a feed give has a fault, or is a network that keeps all rules.
-use Rattle.std.proofs.Common.{◌≡◌, List, ◌++◌, length, map, None, Some, refl, sym, ap, subst, ◌∙◌}
-use Rattle.plan_base.specs.declared.limits.Caps.{Caps}
-use Rattle.service_days.specs.Days.{AreDays}
-use Rattle.service_days.specs.DaysMeaning.{DaysMeaning}
-use Rattle.opl_reader.specs.ObjectLists.{AreObjects, ObjectLists}
-use Rattle.gtfs_tables.specs.FeedLists.{FeedLists}
-use Rattle.gtfs_tables.specs.Sound.{IsFeed}
-use Rattle.mode_network.specs.NetworkLists.{NetworkLists}
-use Rattle.mode_network.specs.Rules.{AreParts, first_fault}
-use Rattle.mode_network.specs.declared.nodes.Arc.{Arc}
-use Rattle.mode_network.specs.declared.nodes.Node.{Node}
-use Rattle.region_build.specs.Answers.{HasFault, IsCompiled, IsFaultOf, draft_fault, fault_by}
-use Rattle.region_build.specs.Compiled.{AreLists, IsDraft}
-use Rattle.region_build.specs.Copies.{expanded}
-use Rattle.region_build.specs.Sources.{AreTripSources, SourceLists}
-use Rattle.region_build.specs.StopNames.{stop_number}
-use Rattle.region_build.specs.Tallies.{IsTally, tallies_of}
-use Rattle.region_build.specs.declared.faults.BuildFault.{BuildFault}
-use Rattle.region_build.specs.declared.faults.BuildFault.TheVariants.{TimeGoesBack, TooMany, OutOfMemory}
-use Rattle.region_build.specs.declared.stops.StopEntry.{StopEntry}
-use Rattle.region_build.specs.declared.tallies.Counts.{Counts}
-use Rattle.region_build.specs.declared.tallies.Tally.{Tally}
-use Rattle.region_build.proofs.KeepLaws.{draft_keeps}
-use Rattle.region_build.proofs.PartLaws.{lists_are_parts}
-use Rattle.region_build.proofs.TallyLaws.{calls_counted, trips_counted}
+use Rattle.plan_base.proofs.Common.{◌≡◌, List, ◌++◌, length, map, None, Some, refl, sym, ap, subst, ◌∙◌}
+use Rattle.plan_base.specs.{Caps}
+use Rattle.service_days.specs.{AreDays, DaysMeaning.DaysMeaning}
+use Rattle.opl_reader.specs.{AreObjects, ObjectLists.ObjectLists}
+use Rattle.gtfs_tables.specs.{FeedLists.FeedLists, IsFeed}
+use Rattle.mode_network.specs.{NetworkLists.NetworkLists, AreParts, first_fault, Arc, Node}
+use Rattle.region_build.specs.{HasFault, IsCompiled, IsFaultOf, draft_fault, fault_by, AreLists, IsDraft, expanded, AreTripSources, SourceLists, stop_number, IsTally, tallies_of, BuildFault, TimeGoesBack, TooMany, OutOfMemory, StopEntry, Counts, Tally}
+use Rattle.region_build.proofs.{KeepLaws.draft_keeps, PartLaws.lists_are_parts, TallyLaws.calls_counted, TallyLaws.trips_counted}
 
 module _ (caps : Caps) {objects : ObjectLists} {feed : FeedLists} {days : DaysMeaning} {entries : List StopEntry} {sources : List SourceLists} {roads stops switches : List Node} {arcs links : List Arc} {tally : Tally}
     (lists : AreLists objects feed entries roads stops switches arcs links) (said : AreTripSources feed days sources) (is : IsTally sources tally) where

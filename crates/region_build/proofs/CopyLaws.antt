@@ -1,7 +1,6 @@
 -- The departures of a headway, one after the other.
-use Rattle.std.proofs.Common.{◌≡◌, ℕ, zero, suc, ◌+◌, ◌-◌, ◌<◌, List, [], ◌∷◌, ◌++◌, true, nat_lt, refl, sym, ap, ◌∙◌, arith, append_assoc}
-use Rattle.std.proofs.lemmas.Bool.Decides.{nat_tests}
-use Rattle.region_build.specs.Copies.{departing}
+use Rattle.plan_base.proofs.Common.{◌≡◌, ℕ, zero, suc, ◌+◌, ◌-◌, ◌<◌, List, [], ◌∷◌, ◌++◌, true, nat_lt, refl, sym, ap, ◌∙◌, arith, append_assoc, nat_tests}
+use Rattle.region_build.specs.{departing}
 
 -- one time more
 departing-more : (most t end headway : ℕ) → 0 < most → t < end → departing most t end headway ≡ t ∷ departing (most - 1) (t + headway) end headway

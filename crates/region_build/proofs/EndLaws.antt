@@ -1,40 +1,14 @@
 -- The ends of a map's road arcs ascend, each has a number of its own, and the road nodes are theirs.
-use Rattle.std.proofs.Common.{◌≡◌, ℕ, ℤ, ap₂, suc, ◌+◌, ◌<◌, List, [], ◌∷◌, ◌++◌, length, map, get_or, Bool, true, false, Option, None, Some, if◌then◌else◌, refl, sym, ap, subst, ◌∙◌, arith}
-use Rattle.std.specs.Prelude.{is_some, nat_eq, option_and_then, option_map, option_to_list, slice_get}
-use Rattle.std.specs.Cmp.{IsTotalOrder, nat_cmp_total, int_cmp_total}
-use Rattle.std.specs.List.{All, flat_map, list_any}
-use Rattle.std.specs.List.Sorted.{IsSorted}
-use Rattle.std.specs.Ordering.{int_cmp, int_eq, is_lt, nat_cmp, ordering_reverse, ordering_then}
-use Rattle.std.specs.declared.cmp.Ordering.{Ordering}
-use Rattle.std.specs.declared.cmp.Ordering.TheVariants.{Less, Equal, Greater}
-use Rattle.std.proofs.lemmas.Bool.{and_from, and_parts, false≢true, or_parts}
-use Rattle.std.proofs.lemmas.Bool.Decides.{Decides-int_eq}
-use Rattle.std.proofs.lemmas.Cmp.{on_total, then_total}
-use Rattle.std.proofs.lemmas.List.{length-map}
-use Rattle.std.proofs.lemmas.List.Elements.{All-append, All-cons, All-head, All-nil, All-tail}
-use Rattle.std.proofs.lemmas.List.Quantifiers.{position-Some}
-use Rattle.std.proofs.lemmas.List.Sorted.{All-permutation, ranks_by, sorted_far}
-use Rattle.std.proofs.lemmas.Map.Lookups.{exact_pairs, exact_signed, exact_unsigned}
-use Rattle.std.proofs.lemmas.Option.{slice_get-get_or, slice_get-map}
-use Rattle.plan_base.specs.Modes.{number_of_mode}
-use Rattle.plan_base.specs.declared.modes.Mode.{Mode}
-use Rattle.plan_base.specs.declared.places.Place.{Place}
+use Rattle.plan_base.proofs.Common.{◌≡◌, ℕ, ℤ, ap₂, suc, ◌+◌, ◌<◌, List, [], ◌∷◌, ◌++◌, length, map, get_or, Bool, true, false, Option, None, Some, if◌then◌else◌, refl, sym, ap, subst, ◌∙◌, arith, is_some, nat_eq, option_and_then, option_map, option_to_list, slice_get, IsTotalOrder, nat_cmp_total, int_cmp_total, All, flat_map, list_any, IsSorted, int_cmp, int_eq, is_lt, nat_cmp, ordering_reverse, ordering_then, Ordering, Less, Equal, Greater, and_from, and_parts, false≢true, or_parts, Decides-int_eq, on_total, then_total, length-map, All-append, All-cons, All-head, All-nil, All-tail, position-Some, All-permutation, ranks_by, sorted_far, exact_pairs, exact_signed, exact_unsigned, slice_get-get_or}
+use Rattle.std.proofs.lemmas.Option.{slice_get-map}
+use Rattle.plan_base.specs.{number_of_mode, Mode, Place}
 use Rattle.opl_reader.specs.ObjectLists.{ObjectLists}
-use Rattle.road_profile.specs.Arcs.{JoinsPlaces}
-use Rattle.road_profile.specs.Legs.{place_of_node}
+use Rattle.road_profile.specs.{JoinsPlaces, place_of_node}
 use Rattle.road_profile.proofs.EndLaws.{arcs_joined}
 use Rattle.mode_network.proofs.RuleLemmas.{mode_by_number, mode_is_same, same_mode_is}
-use Rattle.mode_network.specs.NetworkLists.{mode_at, mode_of}
-use Rattle.mode_network.specs.Rules.{first_unsorted, node_cmp, rank_of}
-use Rattle.mode_network.specs.declared.nodes.Arc.{Arc}
-use Rattle.mode_network.specs.declared.nodes.Node.{Node}
-use Rattle.mode_network.specs.declared.nodes.NodeKey.{NodeKey}
-use Rattle.mode_network.specs.declared.nodes.NodeKey.TheVariants.{Road}
-use Rattle.region_build.specs.Compiled.{AreRoads}
-use Rattle.region_build.specs.Ends.{End, end_cmp, ends_at, is_same_end, key_of_end, number_of_end, once_behind}
-use Rattle.region_build.specs.Roads.{road_node, road_nodes}
-use Rattle.region_build.proofs.OrderLaws.{Rises, rises_by, rises_map, rises_push, rises_sorted}
-use Rattle.region_build.proofs.PartLaws.{flat_map-if, once_keeps}
+use Rattle.mode_network.specs.{mode_at, mode_of, first_unsorted, node_cmp, rank_of, Arc, Node, NodeKey, Road}
+use Rattle.region_build.specs.{AreRoads, End, end_cmp, ends_at, is_same_end, key_of_end, number_of_end, once_behind, road_node, road_nodes}
+use Rattle.region_build.proofs.{OrderLaws.Rises, OrderLaws.rises_by, OrderLaws.rises_map, OrderLaws.rises_push, OrderLaws.rises_sorted, PartLaws.flat_map-if, PartLaws.once_keeps}
 
 pub end_total : IsTotalOrder end_cmp
 end_total = then_total (on_total (λ (end : End). end.0) int_cmp_total) (on_total (λ (end : End). number_of_mode end.1) nat_cmp_total)

@@ -1,12 +1,7 @@
 -- Rows in the order of their trips: those of a trip stand in front, once those of earlier trips are gone.
-use Rattle.std.proofs.Common.{◌≡◌, ℕ, suc, ◌+◌, ◌≤◌, List, [], ◌∷◌, length, take, drop, Bool, true, false, refl, sym, ap, subst, ◌∙◌, arith}
-use Rattle.std.specs.Prelude.{filter}
-use Rattle.std.specs.List.Sorted.{IsSorted}
-use Rattle.std.specs.Ordering.{is_lt, nat_cmp, ordering_then}
-use Rattle.std.proofs.lemmas.Bool.Decides.{nat_tests}
-use Rattle.std.proofs.lemmas.List.{drop_all, take_all}
+use Rattle.plan_base.proofs.Common.{◌≡◌, ℕ, suc, ◌+◌, ◌≤◌, List, [], ◌∷◌, length, take, drop, Bool, true, false, refl, sym, ap, subst, ◌∙◌, arith, filter, IsSorted, is_lt, nat_cmp, ordering_then, nat_tests, drop_all, take_all}
 use Rattle.std.proofs.lemmas.List.Sums.{take_while-cons}
-use Rattle.region_build.specs.Groups.{Ascend, is_of, own_count}
+use Rattle.region_build.specs.{Ascend, is_of, own_count}
 
 module _ {X : Type 0} (trip : X → ℕ) where
   weaker : (j k : ℕ) (xs : List X) → j ≤ k → Ascend trip k xs → Ascend trip j xs

@@ -1,7 +1,6 @@
 -- The length of an id.
-use Rattle.std.proofs.Common.{◌≡◌, ℕ, ◌<◌, ◌^◌, List, length, true, arith}
-use Rattle.std.proofs.lemmas.Bool.Decides.{nat_tests}
-use Rattle.gtfs_tables.specs.Forms.{is_id}
+use Rattle.plan_base.proofs.Common.{◌≡◌, ℕ, ◌<◌, ◌^◌, List, length, true, arith, nat_tests}
+use Rattle.gtfs_tables.specs.{is_id}
 
 pub id_is_some : (id : List ℕ) → is_id id ≡ true → 0 < length id
 unfolding is_id

@@ -1,33 +1,14 @@
 -- What a map and a feed give keeps the rules of networks, where there is not too much of anything and no times go back.
-use Rattle.std.proofs.Common.{◌≡◌, ℕ, ◌+◌, List, ◌++◌, length, Bool, true, false, nat_lt, Option, None, Some, if◌then◌else◌, refl, sym, ap, ◌∙◌, arith, length-append}
-use Rattle.std.specs.Prelude.{option_map}
-use Rattle.std.proofs.lemmas.List.{length-map}
-use Rattle.std.proofs.lemmas.Option.{none-some}
-use Rattle.plan_base.specs.declared.limits.Caps.{Caps}
-use Rattle.plan_base.specs.declared.limits.Kind.{Kind}
+use Rattle.plan_base.proofs.Common.{◌≡◌, ℕ, ◌+◌, List, ◌++◌, length, Bool, true, false, nat_lt, Option, None, Some, if◌then◌else◌, refl, sym, ap, ◌∙◌, arith, length-append, option_map, length-map, none-some}
+use Rattle.plan_base.specs.{Caps, Kind}
 use Rattle.plan_base.specs.declared.limits.Kind.TheVariants as kinds
-use Rattle.service_days.specs.Days.{AreDays}
-use Rattle.service_days.specs.DaysMeaning.{DaysMeaning}
-use Rattle.opl_reader.specs.ObjectLists.{AreObjects, ObjectLists}
-use Rattle.gtfs_tables.specs.FeedLists.{FeedLists}
-use Rattle.gtfs_tables.specs.Sound.{IsFeed}
-use Rattle.timetable_arcs.specs.TripRules.{calls_of}
-use Rattle.mode_network.specs.NetworkLists.{NetworkLists, nodes_of}
-use Rattle.mode_network.specs.Rules.{count_fault, first_fault, first_unsorted, links_fault, name_cmp, node_cmp, trips_fault}
-use Rattle.region_build.specs.Answers.{draft_fault, or_else}
-use Rattle.region_build.specs.Compiled.{IsDraft, kind_over}
-use Rattle.region_build.specs.Copies.{first_back}
-use Rattle.region_build.specs.Sources.{SourceLists}
-use Rattle.region_build.specs.Switches.{switch_node}
-use Rattle.region_build.specs.Tallies.{tallies_of}
-use Rattle.region_build.specs.declared.faults.BuildFault.TheVariants.{TimeGoesBack, TooMany}
-use Rattle.region_build.specs.declared.stops.StopEntry.{StopEntry}
-use Rattle.region_build.proofs.ArcLaws.{arcs_right}
-use Rattle.region_build.proofs.EndLaws.{roads_long, roads_rise}
-use Rattle.region_build.proofs.LinkLaws.{links_right}
-use Rattle.region_build.proofs.PartLaws.{stop_nodes_long}
-use Rattle.region_build.proofs.PlaceLaws.{names_rise, switches_rise}
-use Rattle.region_build.proofs.TripRuleLaws.{trips_right}
+use Rattle.service_days.specs.{AreDays, DaysMeaning.DaysMeaning}
+use Rattle.opl_reader.specs.{AreObjects, ObjectLists.ObjectLists}
+use Rattle.gtfs_tables.specs.{FeedLists.FeedLists, IsFeed}
+use Rattle.timetable_arcs.specs.{calls_of}
+use Rattle.mode_network.specs.{NetworkLists.NetworkLists, nodes_of, count_fault, first_fault, first_unsorted, links_fault, name_cmp, node_cmp, trips_fault}
+use Rattle.region_build.specs.{draft_fault, or_else, IsDraft, kind_over, first_back, SourceLists, switch_node, tallies_of, TimeGoesBack, TooMany, StopEntry}
+use Rattle.region_build.proofs.{ArcLaws.arcs_right, EndLaws.roads_long, EndLaws.roads_rise, LinkLaws.links_right, PartLaws.stop_nodes_long, PlaceLaws.names_rise, PlaceLaws.switches_rise, TripRuleLaws.trips_right}
 
 -- nothing is over its limit
 record AllWithin (a b c d e f : Bool) : Type 0 where

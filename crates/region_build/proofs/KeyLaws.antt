@@ -1,12 +1,8 @@
 -- Ends are found by their keys, and are put once by them.
-use Rattle.std.proofs.Common.{◌≡◌, ℕ, ℤ, ◌+◌, List, [], ◌∷◌, ◌++◌, map, Bool, true, false, not, ◌&&◌, cond, if◌then◌else◌, nat_lt, nat_eq, None, Some, refl, ap, ap₂, sym, ◌∙◌}
-use Rattle.std.specs.List.{list_any, position, prefix_len}
-use Rattle.std.specs.Ordering.{int_eq}
-use Rattle.std.proofs.lemmas.Bool.{false≢true}
-use Rattle.std.proofs.lemmas.List.{length-map}
-use Rattle.plan_base.specs.Modes.{number_of_mode}
+use Rattle.plan_base.proofs.Common.{◌≡◌, ℕ, ℤ, ◌+◌, List, [], ◌∷◌, ◌++◌, map, Bool, true, false, not, ◌&&◌, cond, if◌then◌else◌, nat_lt, nat_eq, None, Some, refl, ap, ap₂, sym, ◌∙◌, list_any, position, prefix_len, int_eq, false≢true, length-map}
+use Rattle.plan_base.specs.{number_of_mode}
 use Rattle.road_profile.proofs.Lists.{list_any-map}
-use Rattle.region_build.specs.Ends.{End, is_same_end, key_of_end, number_of_end}
+use Rattle.region_build.specs.{End, is_same_end, key_of_end, number_of_end}
 
 abbrev pub same_end_key : ℤ × ℕ → ℤ × ℕ → Bool
 same_end_key a b = int_eq a.0 b.0 && nat_eq a.1 b.1

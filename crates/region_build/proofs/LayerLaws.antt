@@ -1,15 +1,10 @@
 -- The nearest of some points is found one after the other.
-use Rattle.std.proofs.Common.{ℕ, ℤ, List, [], ◌∷◌, Option, None, ◌<◌}
-use Rattle.std.specs.Prelude.{fold}
-use Rattle.std.proofs.lemmas.List.Elements.{All-nil}
-use Rattle.plan_base.specs.declared.modes.Mode.{Mode}
-use Rattle.plan_base.specs.declared.modes.Mode.TheVariants.{Foot, Bike, Car}
-use Rattle.plan_base.specs.declared.places.Place.{Place}
-use Rattle.geo_length.specs.Nearest.{Point, IsNearest, ExtendsNearest, length_to, nearer_of}
+use Rattle.plan_base.proofs.Common.{ℕ, ℤ, List, [], ◌∷◌, Option, None, ◌<◌, fold, All-nil}
+use Rattle.plan_base.specs.{Mode, Foot, Bike, Car, Place}
+use Rattle.geo_length.specs.{Point, IsNearest, ExtendsNearest, length_to, nearer_of}
 use Rattle.geo_length.proofs.NearestLaws.{takes_append, takes_none, takes_point}
-use Rattle.mode_network.specs.declared.nodes.Node.{Node}
-use Rattle.region_build.specs.inside.Layers.{near_of, nearest_of}
-use Rattle.region_build.specs.Links.{FindsNearest, layer}
+use Rattle.mode_network.specs.{Node}
+use Rattle.region_build.specs.{inside.near_of, inside.nearest_of, FindsNearest, layer}
 
 takes_all : (place : Place) (points : List Point) (best : Option (ℤ × ℕ)) → ExtendsNearest points place 500000 best (fold (λ (best : Option (ℤ × ℕ)) (point : Point). nearer_of 500000 best point.0 (length_to place point)) best points)
 takes_all place [] best = takes_none place 500000 best

@@ -1,23 +1,10 @@
 -- When and how often trips leave, by arithmetic: what is kept of a headway's departures, and how many they are.
-use Rattle.std.proofs.Common.{◌≡◌, ℕ, zero, suc, ◌+◌, ◌-◌, ◌*◌, ◌<◌, ◌≤◌, max, min, List, [], ◌∷◌, ◌++◌, length, Bool, true, false, not, ◌&&◌, nat_le, nat_lt, if◌then◌else◌, refl, sym, ap, ◌∙◌, arith, suc-mul, ⊎_elim}
-use Rattle.std.specs.Prelude.{filter}
-use Rattle.std.specs.Int.{div_ceil}
-use Rattle.std.specs.List.{All, flat_map, list_all}
-use Rattle.std.proofs.lemmas.Bool.{and_parts, cases_lt}
-use Rattle.std.proofs.lemmas.Bool.Decides.{nat_tests}
+use Rattle.plan_base.proofs.Common.{◌≡◌, ℕ, zero, suc, ◌+◌, ◌-◌, ◌*◌, ◌<◌, ◌≤◌, max, min, List, [], ◌∷◌, ◌++◌, length, Bool, true, false, not, ◌&&◌, nat_le, nat_lt, if◌then◌else◌, refl, sym, ap, ◌∙◌, arith, ⊎_elim, filter, div_ceil, All, flat_map, list_all, and_parts, cases_lt, nat_tests, length-flat_map, filter-append, filter_passes, length-filter, mul-le}
+use Rattle.std.proofs.Common.{suc-mul}
 use Rattle.std.proofs.lemmas.Grind.{div_ceil_times}
-use Rattle.std.proofs.lemmas.List.Concat.{length-flat_map}
-use Rattle.std.proofs.lemmas.List.Elements.{filter-append, filter_passes}
 use Rattle.std.proofs.lemmas.List.Filters.{length-filter_both}
-use Rattle.std.proofs.lemmas.List.Sums.{length-filter}
-use Rattle.std.proofs.lemmas.Nat.{mul-le}
-use Rattle.gtfs_tables.specs.declared.calls.CallRow.{CallRow}
-use Rattle.gtfs_tables.specs.declared.frequencies.FrequencyRow.{FrequencyRow}
-use Rattle.region_build.specs.Copies.{departing, departures_by, departures_by_all, departures_of, first_departure, is_copy_early, is_kept, is_leaving, leaves_of, runs}
-use Rattle.region_build.specs.inside.Leaving.{AreCopyCounts, AreRowCounts, kept_before, latest_of, leaves_by}
-use Rattle.region_build.specs.Left.{late_copies}
-use Rattle.region_build.specs.Sources.{SourceLists}
-use Rattle.region_build.specs.declared.headways.CopyCounts.{CopyCounts}
+use Rattle.gtfs_tables.specs.{CallRow, FrequencyRow}
+use Rattle.region_build.specs.{departing, departures_by, departures_by_all, departures_of, first_departure, is_copy_early, is_kept, is_leaving, leaves_of, runs, late_copies, SourceLists, inside.AreCopyCounts, inside.AreRowCounts, inside.kept_before, inside.latest_of, inside.leaves_by, declared.headways.CopyCounts.CopyCounts}
 
 -- ---- how many departures there are
 

@@ -1,31 +1,11 @@
 -- The links of a region join a layer and a place that is in none, and ascend.
-use Rattle.std.proofs.Common.{◌≡◌, ◌≢◌, ℕ, ℤ, ◌+◌, ◌<◌, ◌≤◌, List, [], ◌∷◌, ◌++◌, get_or, length, map, Bool, true, false, not, Option, None, Some, if◌then◌else◌, refl, sym, ap, ◌∙◌, arith, ◌⊎◌, inl, inr, ⊎_elim}
-use Rattle.std.specs.Prelude.{◌&&◌, nat_le, nat_lt}
-use Rattle.std.specs.List.{All, flat_map, position}
-use Rattle.std.proofs.lemmas.Bool.{false_from_ne_true}
-use Rattle.std.proofs.lemmas.Bool.Decides.{nat_tests}
-use Rattle.std.proofs.lemmas.List.{length-map}
-use Rattle.std.proofs.lemmas.List.Elements.{All-append, All-cons, All-head, All-map, All-nil, All-tail, All-weaker}
-use Rattle.std.proofs.lemmas.List.Sorted.{All-permutation}
-use Rattle.plan_base.specs.declared.modes.Mode.{Mode}
-use Rattle.plan_base.specs.declared.modes.Mode.TheVariants.{Foot, Bike, Car}
-use Rattle.plan_base.specs.declared.places.Place.{Place}
-use Rattle.plan_base.specs.declared.limits.Kind.TheVariants.{Links}
-use Rattle.geo_length.specs.Durations.{duration_of}
-use Rattle.opl_reader.specs.declared.objects.Amenity.{Amenity}
-use Rattle.opl_reader.specs.declared.objects.Amenity.TheVariants.{Nothing, Parking, BicycleParking, BicycleRental}
-use Rattle.opl_reader.specs.declared.objects.OsmNode.{OsmNode}
-use Rattle.mode_network.specs.Rules.{arc_cmp, end_or_order_fault, first_unsorted, joins_layers}
-use Rattle.mode_network.specs.declared.nodes.Arc.{Arc}
-use Rattle.mode_network.specs.declared.nodes.Node.{Node}
-use Rattle.region_build.specs.Ends.{End, number_of_end}
-use Rattle.region_build.specs.Links.{AreLinks, join, join_links, joined_stop, joined_switch, linked, linked_to, links_at, place_links, stop_joins, switch_joins}
-use Rattle.region_build.specs.declared.links.Join.{Join}
-use Rattle.region_build.specs.declared.stops.StopEntry.{StopEntry}
-use Rattle.region_build.proofs.ArcLaws.{arc_total, position_none, same_ends}
-use Rattle.region_build.proofs.EndLaws.{number_is, number_same}
-use Rattle.region_build.proofs.OrderLaws.{Once, none_cons, once_apart, once_cons, once_nil, once_permutation, rises_from_sorted, rises_sorted, same_key}
-use Rattle.region_build.proofs.PartLaws.{IsLinkOf, join_fits, joins_fit, places_fit}
+use Rattle.plan_base.proofs.Common.{◌≡◌, ◌≢◌, ℕ, ℤ, ◌+◌, ◌<◌, ◌≤◌, List, [], ◌∷◌, ◌++◌, get_or, length, map, Bool, true, false, not, Option, None, Some, if◌then◌else◌, refl, sym, ap, ◌∙◌, arith, ◌⊎◌, inl, inr, ⊎_elim, ◌&&◌, nat_le, nat_lt, All, flat_map, position, false_from_ne_true, nat_tests, length-map, All-append, All-cons, All-head, All-map, All-nil, All-tail, All-weaker, All-permutation}
+use Rattle.plan_base.specs.{Mode, Foot, Bike, Car, Place, Links}
+use Rattle.geo_length.specs.{duration_of}
+use Rattle.opl_reader.specs.{Amenity, Nothing, Parking, BicycleParking, BicycleRental, OsmNode}
+use Rattle.mode_network.specs.{arc_cmp, end_or_order_fault, first_unsorted, joins_layers, Arc, Node}
+use Rattle.region_build.specs.{End, number_of_end, AreLinks, join, join_links, joined_stop, joined_switch, linked, linked_to, links_at, place_links, stop_joins, switch_joins, Join, StopEntry}
+use Rattle.region_build.proofs.{ArcLaws.arc_total, ArcLaws.position_none, ArcLaws.same_ends, EndLaws.number_is, EndLaws.number_same, OrderLaws.Once, OrderLaws.none_cons, OrderLaws.once_apart, OrderLaws.once_cons, OrderLaws.once_nil, OrderLaws.once_permutation, OrderLaws.rises_from_sorted, OrderLaws.rises_sorted, OrderLaws.same_key, PartLaws.IsLinkOf, PartLaws.join_fits, PartLaws.joins_fit, PartLaws.places_fit}
 
 once_one : (link : Arc) → Once (same_key arc_cmp) (link ∷ [])
 once_one link = once_cons (same_key arc_cmp) link [] (λ q e. refl) (once_nil (same_key arc_cmp))

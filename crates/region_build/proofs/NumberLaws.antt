@@ -1,8 +1,6 @@
 -- Numbers that are noted one after the other.
-use Rattle.std.proofs.Common.{◌≡◌, ℕ, Option, None, Some, refl, sym, ◌∙◌, ◌<◌, List, [], ◌∷◌, length, arith}
-use Rattle.region_build.specs.declared.stops.StopEntry.{StopEntry}
-use Rattle.region_build.specs.StopNames.{number_from}
-use Rattle.std.specs.Option.{option_or}
+use Rattle.plan_base.proofs.Common.{◌≡◌, ℕ, Option, None, Some, refl, sym, ◌∙◌, ◌<◌, List, [], ◌∷◌, length, arith, option_or}
+use Rattle.region_build.specs.{StopEntry, number_from}
 
 nothing_noted : (old : Option ℕ) → option_or old None ≡ old
 nothing_noted None = refl

@@ -1,18 +1,7 @@
 -- What is sorted, and holds each key once, ascends strictly.
-use Rattle.std.proofs.Common.{◌≡◌, ℕ, suc, ◌+◌, ◌≤◌, List, [], ◌∷◌, ◌++◌, map, Bool, true, false, cond, None, ◌⊎◌, inl, inr, ⊎_elim, refl, sym, ap, ◌∙◌, arith}
-use Rattle.std.specs.Prelude.{count_by}
-use Rattle.std.specs.Cmp.{IsEquivalence, IsTotalOrder}
-use Rattle.std.specs.List.{All, AllByRecursion, IsDistinct}
-use Rattle.std.specs.List.Sorted.{IsPermutation, IsSorted}
-use Rattle.std.specs.Ordering.{is_eq, is_lt, ordering_reverse}
-use Rattle.std.specs.declared.cmp.Ordering.{Ordering}
-use Rattle.std.specs.declared.cmp.Ordering.TheVariants.{Less, Equal, Greater}
-use Rattle.std.proofs.lemmas.Bool.{false_from_ne_true, false≢true}
-use Rattle.std.proofs.lemmas.Cmp.{tied_itself}
-use Rattle.std.proofs.lemmas.List.Elements.{All-head, All-tail}
-use Rattle.std.proofs.lemmas.List.Sorted.{sum_by-IsPermutation}
-use Rattle.std.proofs.lemmas.List.Sums.{sum_by-append, sum_by-cons}
-use Rattle.mode_network.specs.Rules.{first_unsorted}
+use Rattle.plan_base.proofs.Common.{◌≡◌, ℕ, suc, ◌+◌, ◌≤◌, List, [], ◌∷◌, ◌++◌, map, Bool, true, false, cond, None, ◌⊎◌, inl, inr, ⊎_elim, refl, sym, ap, ◌∙◌, arith, count_by, IsEquivalence, IsTotalOrder, All, AllByRecursion, IsPermutation, IsSorted, is_eq, is_lt, ordering_reverse, Ordering, Less, Equal, Greater, false_from_ne_true, false≢true, tied_itself, All-head, All-tail, sum_by-IsPermutation, sum_by-append, sum_by-cons}
+use Rattle.std.specs.List.{IsDistinct}
+use Rattle.mode_network.specs.{first_unsorted}
 
 module _ {X : Type 0} (same : X → X → Bool) where
   -- whichever it is, at most one element is the same as it

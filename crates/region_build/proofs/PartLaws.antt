@@ -1,37 +1,14 @@
 -- What a map and a feed give keeps what a network's parts must: keys and durations.
-use Rattle.std.proofs.Common.{◌≡◌, ℕ, ℤ, zero, suc, ◌+◌, ◌<◌, ◌≤◌, List, [], ◌∷◌, ◌++◌, length, map, get_or, Bool, true, false, Option, None, Some, if◌then◌else◌, refl, sym, ap, subst, ◌∙◌, arith, option_map, add-zero, zero-add, ◌⊎◌, inl, inr}
-use Rattle.std.specs.Prelude.{All, is_some, option_to_list}
-use Rattle.std.specs.List.{AllByRecursion, flat_map, list_any}
-use Rattle.std.specs.Ordering.{int_eq}
-use Rattle.std.proofs.lemmas.Bool.Decides.{Decides-int_eq}
-use Rattle.std.proofs.lemmas.List.{length-map}
-use Rattle.std.proofs.lemmas.List.Elements.{All-append, All-cons, All-from_recursion, All-head, All-map, All-nil, All-tail, All-weaker}
-use Rattle.std.proofs.lemmas.List.Sorted.{All-permutation}
-use Rattle.plain_texts.specs.Numbers.{IsId}
-use Rattle.plan_base.specs.declared.modes.Mode.{Mode}
-use Rattle.plan_base.specs.declared.places.Place.{Place}
-use Rattle.geo_length.specs.Durations.{duration_of}
-use Rattle.opl_reader.specs.ObjectLists.{AreObjects, IsOsmId, ObjectLists}
-use Rattle.opl_reader.specs.declared.objects.OsmNode.{OsmNode}
-use Rattle.road_profile.specs.Arcs.{IsTimed, JoinsPlaces}
-use Rattle.road_profile.specs.Legs.{place_of_node}
-use Rattle.road_profile.specs.declared.rows.RoadRow.{RoadRow}
-use Rattle.road_profile.proofs.EndLaws.{arcs_joined}
-use Rattle.road_profile.proofs.TimedLaws.{arcs_timed, duration_of-ge}
+use Rattle.plan_base.proofs.Common.{◌≡◌, ℕ, ℤ, zero, suc, ◌+◌, ◌<◌, ◌≤◌, List, [], ◌∷◌, ◌++◌, length, map, get_or, Bool, true, false, Option, None, Some, if◌then◌else◌, refl, sym, ap, subst, ◌∙◌, arith, option_map, add-zero, zero-add, ◌⊎◌, inl, inr, All, is_some, option_to_list, AllByRecursion, flat_map, list_any, int_eq, Decides-int_eq, length-map, All-append, All-cons, All-from_recursion, All-head, All-map, All-nil, All-tail, All-weaker, All-permutation}
+use Rattle.plain_texts.specs.{IsId}
+use Rattle.plan_base.specs.{Mode, Place}
+use Rattle.geo_length.specs.{duration_of}
+use Rattle.opl_reader.specs.{AreObjects, IsOsmId, OsmNode, ObjectLists.ObjectLists}
+use Rattle.road_profile.specs.{IsTimed, JoinsPlaces, place_of_node, RoadRow}
+use Rattle.road_profile.proofs.{EndLaws.arcs_joined, TimedLaws.arcs_timed, TimedLaws.duration_of-ge}
 use Rattle.gtfs_tables.specs.FeedLists.{FeedLists}
-use Rattle.mode_network.specs.NetworkLists.{NetworkLists}
-use Rattle.mode_network.specs.Rules.{AreParts, IsRoad, IsStop, IsSwitch}
-use Rattle.mode_network.specs.declared.nodes.Arc.{Arc}
-use Rattle.mode_network.specs.declared.nodes.Node.{Node}
-use Rattle.mode_network.specs.declared.nodes.NodeKey.TheVariants.{Road}
-use Rattle.region_build.specs.Compiled.{AreLists, AreRoads}
-use Rattle.region_build.specs.Ends.{End, ends_at, is_same_end, number_of_end, once_behind}
-use Rattle.region_build.specs.Links.{AreLinks, join_links, joined_stop, joined_switch, linked, linked_to, links_at, place_links}
-use Rattle.region_build.specs.Roads.{arc_between, arc_by_row, arcs_of, road_node}
-use Rattle.region_build.specs.StopNames.{stop_entry_nodes}
-use Rattle.region_build.specs.Switches.{AreSwitches, is_switch, switch_at, switch_node}
-use Rattle.region_build.specs.declared.links.Join.{Join}
-use Rattle.region_build.specs.declared.stops.StopEntry.{StopEntry}
+use Rattle.mode_network.specs.{NetworkLists.NetworkLists, AreParts, IsRoad, IsStop, IsSwitch, Arc, Node, Road}
+use Rattle.region_build.specs.{AreLists, AreRoads, End, ends_at, is_same_end, number_of_end, once_behind, AreLinks, join_links, joined_stop, joined_switch, linked, linked_to, links_at, place_links, arc_between, arc_by_row, arcs_of, road_node, stop_entry_nodes, AreSwitches, is_switch, switch_at, switch_node, Join, StopEntry}
 
 -- what holds of all that each element gives, where the elements are such
 pub flat_map-if : {X Y : Type 0} (P : Y → Type 0) (Q : X → Type 0) (f : X → List Y) → ((x : X) → Q x → All P (f x)) → (xs : List X) → All Q xs → All P (flat_map f xs)

@@ -1,24 +1,12 @@
 -- The names of stops ascend, and so do the ids of switches.
-use Rattle.std.proofs.Common.{◌≡◌, ℕ, ◌+◌, ◌≤◌, List, [], ◌∷◌, ◌++◌, map, Bool, true, false, None, Some, if◌then◌else◌, refl, sym, ◌∙◌, arith}
-use Rattle.std.specs.Prelude.{bytes_eq, count_by, option_to_list}
-use Rattle.std.specs.Cmp.{int_cmp_total, int_eq_equiv}
-use Rattle.std.specs.List.{AllByRecursion, IsDistinct, flat_map}
-use Rattle.std.specs.Ordering.{int_cmp, is_lt, nat_cmp, ordering_then}
-use Rattle.std.specs.declared.cmp.Ordering.{Ordering}
-use Rattle.std.specs.declared.cmp.Ordering.TheVariants.{Less, Equal, Greater}
-use Rattle.std.proofs.lemmas.Bool.{false_from_ne_true, false≢true}
-use Rattle.std.proofs.lemmas.Cmp.{nat_list_cmp_total, on_total}
-use Rattle.std.proofs.lemmas.Map.Text.{is_eq-slice_cmp}
-use Rattle.std.proofs.lemmas.Slice.Eq.{bytes_eq-Decides}
-use Rattle.plain_texts.specs.Escape.{escaped}
+use Rattle.plan_base.proofs.Common.{◌≡◌, ℕ, ◌+◌, ◌≤◌, List, [], ◌∷◌, ◌++◌, map, Bool, true, false, None, Some, if◌then◌else◌, refl, sym, ◌∙◌, arith, bytes_eq, count_by, option_to_list, int_cmp_total, int_eq_equiv, AllByRecursion, flat_map, int_cmp, is_lt, nat_cmp, ordering_then, Ordering, Less, Equal, Greater, false_from_ne_true, false≢true, nat_list_cmp_total, on_total, is_eq-slice_cmp, bytes_eq-Decides}
+use Rattle.std.specs.List.{IsDistinct}
+use Rattle.plain_texts.specs.{escaped}
 use Rattle.plain_texts.proofs.EscapeLaws.{escaped_of_one}
-use Rattle.opl_reader.specs.ObjectLists.{AreObjects, ObjectLists}
-use Rattle.opl_reader.specs.declared.objects.OsmNode.{OsmNode}
-use Rattle.gtfs_tables.specs.declared.stops.StopRow.{StopRow}
-use Rattle.mode_network.specs.Rules.{first_unsorted, name_cmp, node_cmp}
-use Rattle.region_build.specs.StopNames.{AreEntries, entries_from}
-use Rattle.region_build.specs.Switches.{AreSwitches, is_switch, switch_at, switch_node}
-use Rattle.region_build.specs.declared.stops.StopEntry.{StopEntry}
+use Rattle.opl_reader.specs.{AreObjects, OsmNode, ObjectLists.ObjectLists}
+use Rattle.gtfs_tables.specs.{StopRow}
+use Rattle.mode_network.specs.{first_unsorted, name_cmp, node_cmp}
+use Rattle.region_build.specs.{AreEntries, entries_from, AreSwitches, is_switch, switch_at, switch_node, StopEntry}
 use Rattle.region_build.proofs.OrderLaws.{None_of, Once, count-cons, none_cons, once_cons, once_distinct, once_nil, once_permutation, rises_from_sorted, rises_map, rises_sorted, same_key}
 
 -- ---- stops

@@ -1,24 +1,11 @@
 -- What is said of services, row by row.
-use Rattle.std.proofs.Common.{◌≡◌, ℕ, ◌+◌, ◌<◌, List, [], ◌∷◌, ◌++◌, length, get_or, take, map, Bool, true, false, Option, None, Some, cond, if◌then◌else◌, refl, sym, ap, subst, ◌∙◌}
-use Rattle.std.specs.Prelude.{IfSome, Vec, bytes_eq, filter, is_none, unwrap_or}
-use Rattle.std.specs.Option.{option_copied, option_map_or}
-use Rattle.std.specs.declared.alloc.Global.{Global}
+use Rattle.plan_base.proofs.Common.{◌≡◌, ℕ, ◌+◌, ◌<◌, List, [], ◌∷◌, ◌++◌, length, get_or, take, map, Bool, true, false, Option, None, Some, cond, if◌then◌else◌, refl, sym, ap, subst, ◌∙◌, IfSome, Vec, bytes_eq, filter, is_none, unwrap_or, option_map_or, Global, update, false≢true, nat_list_eq_equiv, append-nil, map-append, take_more, filter-append, none-some, bytes_eq-Decides}
+use Rattle.std.proofs.Common.{option_copied}
 use denote.Ref.{Bor}
-use Rattle.std.specs.Map.{update}
-use Rattle.std.proofs.lemmas.Bool.{false≢true}
-use Rattle.std.proofs.lemmas.Cmp.{nat_list_eq_equiv}
-use Rattle.std.proofs.lemmas.List.{append-nil, map-append, take_more}
-use Rattle.std.proofs.lemmas.List.Elements.{filter-append}
-use Rattle.std.proofs.lemmas.Option.{none-some}
-use Rattle.std.proofs.lemmas.Slice.Eq.{bytes_eq-Decides}
-use Rattle.service_days.specs.DaysMeaning.{DaysMeaning}
-use Rattle.service_days.specs.declared.services.ServiceRule.{ServiceRule}
-use Rattle.plan_base.specs.declared.days.DaySet.{DaySet}
-use Rattle.gtfs_tables.specs.FeedLists.{FeedLists}
-use Rattle.gtfs_tables.specs.declared.dates.DateRow.{DateRow}
-use Rattle.gtfs_tables.specs.declared.services.ServiceRow.{ServiceRow}
-use Rattle.region_build.specs.inside.ByService.{KnowDays, TellServices, rule_with}
-use Rattle.region_build.specs.Services.{AreDaysBy, AreDaysOf, dates_of, is_change, rule_of}
+use Rattle.service_days.specs.{DaysMeaning.DaysMeaning, ServiceRule}
+use Rattle.plan_base.specs.{DaySet}
+use Rattle.gtfs_tables.specs.{FeedLists.FeedLists, DateRow, ServiceRow}
+use Rattle.region_build.specs.{inside.KnowDays, inside.TellServices, inside.rule_with, AreDaysBy, AreDaysOf, dates_of, is_change, rule_of}
 
 -- one service more
 pub rule_of-push : (services : List ServiceRow) (service : ServiceRow) (id : List ℕ) → rule_of (services ++ service ∷ []) id ≡ rule_with (rule_of services id) service id

@@ -1,15 +1,8 @@
 -- What the tables say of one trip after another.
-use Rattle.std.proofs.Common.{◌≡◌, ℕ, ◌+◌, ◌-◌, ◌<◌, ◌≤◌, List, [], ◌∷◌, ◌++◌, length, map, take, drop, get_or, refl, subst, sym, ap, arith, ◌∙◌, append_assoc}
-use Rattle.std.specs.Prelude.{filter}
-use Rattle.std.proofs.lemmas.List.{append-nil, map-append, take_all}
+use Rattle.plan_base.proofs.Common.{◌≡◌, ℕ, ◌+◌, ◌-◌, ◌<◌, ◌≤◌, List, [], ◌∷◌, ◌++◌, length, map, take, drop, get_or, refl, subst, sym, ap, arith, ◌∙◌, append_assoc, filter, append-nil, map-append, take_all}
 use Rattle.service_days.specs.DaysMeaning.{DaysMeaning}
-use Rattle.gtfs_tables.specs.FeedLists.{FeedLists}
-use Rattle.gtfs_tables.specs.declared.calls.CallRow.{CallRow}
-use Rattle.gtfs_tables.specs.declared.frequencies.FrequencyRow.{FrequencyRow}
-use Rattle.gtfs_tables.specs.declared.trips.TripRow.{TripRow}
-use Rattle.region_build.specs.Groups.{is_of, trip_of_call, trip_of_frequency}
-use Rattle.region_build.specs.declared.sources.Source.{Source}
-use Rattle.region_build.specs.Sources.{AreSourcesFrom, IsSource, SourceLists, lists_of}
+use Rattle.gtfs_tables.specs.{FeedLists.FeedLists, CallRow, FrequencyRow, TripRow}
+use Rattle.region_build.specs.{is_of, trip_of_call, trip_of_frequency, Source, AreSourcesFrom, IsSource, SourceLists, lists_of}
 
 -- the first element and those behind it
 pub first_and_rest : {X : Type 0} (xs : List X) (d : X) → 1 ≤ length xs → xs ≡ get_or xs 0 d ∷ take (length xs - 1) (drop 1 xs)

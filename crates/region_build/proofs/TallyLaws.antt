@@ -1,19 +1,7 @@
 -- What the trips of a feed come to, one after the other.
-use Rattle.std.proofs.Common.{◌≡◌, ℕ, ◌+◌, ◌*◌, List, [], ◌∷◌, ◌++◌, length, map, Option, None, Some, if◌then◌else◌, cond, refl, sym, ap, ◌∙◌, arith}
-use Rattle.std.specs.Prelude.{sum_by}
-use Rattle.std.specs.List.{flat_map}
-use Rattle.std.specs.Option.{option_or}
-use Rattle.std.proofs.lemmas.List.{length-map}
-use Rattle.std.proofs.lemmas.List.Concat.{length-flat_map}
-use Rattle.std.proofs.lemmas.List.Sums.{sum_by-append, sum_by-cons, sum_by_push}
-use Rattle.timetable_arcs.specs.TripRules.{calls_of}
-use Rattle.timetable_arcs.specs.Trips.{TripLists}
-use Rattle.region_build.specs.Copies.{back_of, call_at, copies_of, copy_at, expanded, first_back, first_departure, leaves_of}
-use Rattle.region_build.specs.Left.{AreLeft, is_idle, is_inexact, is_short, late_copies}
-use Rattle.region_build.specs.Sources.{SourceLists}
-use Rattle.region_build.specs.Tallies.{IsTally}
-use Rattle.region_build.specs.declared.left.LeftOut.{LeftOut}
-use Rattle.region_build.specs.declared.tallies.Tally.{Tally}
+use Rattle.plan_base.proofs.Common.{◌≡◌, ℕ, ◌+◌, ◌*◌, List, [], ◌∷◌, ◌++◌, length, map, Option, None, Some, if◌then◌else◌, cond, refl, sym, ap, ◌∙◌, arith, sum_by, flat_map, option_or, length-map, length-flat_map, sum_by-append, sum_by-cons, sum_by_push}
+use Rattle.timetable_arcs.specs.{calls_of, TripLists}
+use Rattle.region_build.specs.{back_of, call_at, copies_of, copy_at, expanded, first_back, first_departure, leaves_of, AreLeft, is_idle, is_inexact, is_short, late_copies, SourceLists, IsTally, LeftOut, Tally}
 
 -- with one trip more
 module _ (sources : List SourceLists) (source : SourceLists) where

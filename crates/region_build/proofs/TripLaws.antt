@@ -1,14 +1,8 @@
 -- The ids of what is said of trips.
-use Rattle.std.proofs.Common.{ℕ, ◌+◌, List, [], ◌∷◌, map, subst, sym}
-use Rattle.std.specs.List.{AllByRecursion}
+use Rattle.plan_base.proofs.Common.{ℕ, ◌+◌, List, [], ◌∷◌, map, subst, sym, AllByRecursion}
 use Rattle.service_days.specs.DaysMeaning.{DaysMeaning}
-use Rattle.gtfs_tables.specs.FeedLists.{FeedLists}
-use Rattle.gtfs_tables.specs.Sound.{IsFeedId, IsTrip}
-use Rattle.gtfs_tables.specs.declared.calls.CallRow.{CallRow}
-use Rattle.gtfs_tables.specs.declared.frequencies.FrequencyRow.{FrequencyRow}
-use Rattle.gtfs_tables.specs.declared.trips.TripRow.{TripRow}
-use Rattle.region_build.specs.Sources.{AreSourcesFrom, lists_of}
-use Rattle.region_build.specs.declared.sources.Source.{Source}
+use Rattle.gtfs_tables.specs.{FeedLists.FeedLists, IsFeedId, IsTrip, CallRow, FrequencyRow, TripRow}
+use Rattle.region_build.specs.{AreSourcesFrom, lists_of, Source}
 
 -- they are those of the trips
 pub sources_have_ids : (feed : FeedLists) (days : DaysMeaning) (calls : List CallRow) (frequencies : List FrequencyRow) (k routes : ℕ) (trips : List TripRow) (sources : List Source)

@@ -1,42 +1,16 @@
 -- The trips of a region keep the rules of timetables.
-use Rattle.std.proofs.Common.{◌≡◌, ◌≢◌, ℕ, suc, ◌+◌, ◌/◌, ◌%◌, ◌^◌, ◌<◌, ◌≤◌, List, [], ◌∷◌, length, map, get_or, Bool, true, false, not, ◌&&◌, nat_eq, nat_le, nat_lt, Option, None, Some, if◌then◌else◌, refl, sym, ap, subst, ◌∙◌, arith, ⊎_elim, eq-eqb}
-use Rattle.std.specs.Prelude.{IfSome, option_map, unwrap_or}
-use Rattle.std.specs.Int.{bit_at}
-use Rattle.std.specs.List.{All, AllByRecursion, flat_map, list_all}
-use Rattle.std.specs.List.Sorted.{IsPermutation}
-use Rattle.std.specs.Option.{option_or}
-use Rattle.std.proofs.lemmas.Bool.{and_from, and_left, and_parts, cases_lt, false≢true, lt-ltb}
-use Rattle.std.proofs.lemmas.Bool.Decides.{nat_tests}
-use Rattle.std.proofs.lemmas.List.{length-map}
-use Rattle.std.proofs.lemmas.List.Elements.{All-cons, All-filter, All-from_recursion, All-head, All-map, All-nil, All-tail, All-weaker, recursion_from_All}
+use Rattle.plan_base.proofs.Common.{◌≡◌, ◌≢◌, ℕ, suc, ◌+◌, ◌/◌, ◌%◌, ◌^◌, ◌<◌, ◌≤◌, List, [], ◌∷◌, length, map, get_or, Bool, true, false, not, ◌&&◌, nat_eq, nat_le, nat_lt, Option, None, Some, if◌then◌else◌, refl, sym, ap, subst, ◌∙◌, arith, ⊎_elim, eq-eqb, IfSome, option_map, unwrap_or, bit_at, All, AllByRecursion, flat_map, list_all, IsPermutation, option_or, and_from, and_parts, cases_lt, false≢true, lt-ltb, nat_tests, length-map, All-cons, All-filter, All-from_recursion, All-head, All-map, All-nil, All-tail, All-weaker, recursion_from_All, All-permutation, length_permutation, pow_pos, bit_at-lt, bit_at_above, IfSome_then, none-some, slice_get_cases}
+use Rattle.std.proofs.lemmas.Bool.{and_left}
 use Rattle.std.proofs.lemmas.List.Folds.{list_all-map}
-use Rattle.std.proofs.lemmas.List.Sorted.{All-permutation, length_permutation}
-use Rattle.std.proofs.lemmas.Nat.{mod_below, pow_pos, shr_split}
-use Rattle.std.proofs.lemmas.Nat.Bits.{bit_at-lt, bit_at_above, bit_at_cat_low, same_from_bits}
-use Rattle.std.proofs.lemmas.Option.{IfSome_then, none-some, slice_get_cases}
-use Rattle.plan_base.specs.declared.days.DaySet.{DaySet}
-use Rattle.service_days.specs.Days.{AreDays, numbers_of}
-use Rattle.service_days.specs.DaysMeaning.{DaysMeaning}
-use Rattle.gtfs_tables.specs.FeedLists.{FeedLists}
-use Rattle.gtfs_tables.specs.Sound.{IsCall, IsFeed, IsFrequency, IsRoute, IsTrip}
-use Rattle.gtfs_tables.specs.declared.calls.CallRow.{CallRow}
-use Rattle.gtfs_tables.specs.declared.frequencies.FrequencyRow.{FrequencyRow}
-use Rattle.gtfs_tables.specs.declared.routes.RouteRow.{RouteRow}
-use Rattle.gtfs_tables.specs.declared.stops.StopRow.{StopRow}
-use Rattle.gtfs_tables.specs.declared.trips.TripRow.{TripRow}
+use Rattle.std.proofs.lemmas.Nat.{mod_below, shr_split}
+use Rattle.std.proofs.lemmas.Nat.Bits.{bit_at_cat_low, same_from_bits}
+use Rattle.plan_base.specs.{DaySet}
+use Rattle.service_days.specs.{AreDays, numbers_of, DaysMeaning.DaysMeaning}
+use Rattle.gtfs_tables.specs.{FeedLists.FeedLists, IsCall, IsFeed, IsFrequency, IsRoute, IsTrip, CallRow, FrequencyRow, RouteRow, StopRow, TripRow}
 use Rattle.timetable_arcs.specs.TripRules as rules_of
-use Rattle.timetable_arcs.specs.Trips.{TripLists}
-use Rattle.timetable_arcs.specs.declared.trips.Call.{Call}
-use Rattle.region_build.specs.Copies.{back_of, call_at, copies_of, copy_at, expanded, first_back, first_departure, is_kept, leaves_of, moved, rows_go_on, runs}
-use Rattle.region_build.specs.Groups.{is_of, trip_of_call, trip_of_frequency}
-use Rattle.region_build.specs.Services.{AreDaysOf}
-use Rattle.region_build.specs.Sources.{AreSourcesFrom, AreTripSources, SourceLists, letter_of, lists_of}
-use Rattle.region_build.specs.StopNames.{AreEntries, entries_from, number_from, stop_number}
-use Rattle.region_build.specs.declared.sources.Source.{Source}
-use Rattle.region_build.specs.declared.stops.StopEntry.{StopEntry}
-use Rattle.region_build.proofs.ArcLaws.{position_none}
-use Rattle.region_build.proofs.LeavingLaws.{all_kept, leaves_run}
-use Rattle.region_build.proofs.PartLaws.{flat_map-if}
+use Rattle.timetable_arcs.specs.{TripLists, Call}
+use Rattle.region_build.specs.{back_of, call_at, copies_of, copy_at, expanded, first_back, first_departure, is_kept, leaves_of, moved, rows_go_on, runs, is_of, trip_of_call, trip_of_frequency, AreDaysOf, AreSourcesFrom, AreTripSources, SourceLists, letter_of, lists_of, AreEntries, entries_from, number_from, stop_number, Source, StopEntry}
+use Rattle.region_build.proofs.{ArcLaws.position_none, LeavingLaws.all_kept, LeavingLaws.leaves_run, PartLaws.flat_map-if}
 
 -- ---- what is said of each trip
 

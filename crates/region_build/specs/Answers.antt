@@ -1,19 +1,12 @@
 -- What the build of a region answers.
-use Rattle.std.specs.Prelude.{◌≡◌, ℕ, List, Option, None, Some}
-use Rattle.std.specs.Option.{option_map}
-use Rattle.plan_base.specs.declared.limits.Caps.{Caps}
+use Rattle.std.specs.Prelude.{◌≡◌, ℕ, List, Option, None, Some, option_map}
+use Rattle.plan_base.specs.{Caps}
 use Rattle.service_days.specs.DaysMeaning.{DaysMeaning}
 use Rattle.opl_reader.specs.ObjectLists.{ObjectLists}
 use Rattle.gtfs_tables.specs.FeedLists.{FeedLists}
 use Rattle.mode_network.specs.NetworkLists.{NetworkLists}
-use Rattle.region_build.specs.Compiled.{IsDraft, kind_over}
-use Rattle.region_build.specs.Copies.{first_back}
-use Rattle.region_build.specs.Sources.{SourceLists}
-use Rattle.region_build.specs.Tallies.{tallies_of}
-use Rattle.region_build.specs.declared.faults.BuildFault.{BuildFault}
-use Rattle.region_build.specs.declared.faults.BuildFault.TheVariants.{TimeGoesBack, TooMany, OutOfMemory}
-use Rattle.region_build.specs.declared.stops.StopEntry.{StopEntry}
-use Rattle.region_build.specs.declared.tallies.Counts.{Counts}
+use Rattle.region_build.specs.{Compiled.IsDraft, Compiled.kind_over, Copies.first_back, Sources.SourceLists, Tallies.tallies_of, declared.stops.StopEntry.StopEntry, declared.tallies.Counts.Counts}
+pub use Rattle.region_build.specs.{declared.faults.BuildFault.BuildFault, declared.faults.BuildFault.TheVariants.TimeGoesBack, declared.faults.BuildFault.TheVariants.TooMany, declared.faults.BuildFault.TheVariants.OutOfMemory}
 
 -- this fault, or else the other
 abbrev pub or_else : Option BuildFault → Option BuildFault → Option BuildFault

@@ -1,30 +1,15 @@
 -- The region of a map and a feed.
 use Rattle.std.specs.Prelude.{◌≡◌, List, map, Option, None, Some, nat_lt, if◌then◌else◌}
-use Rattle.plan_base.specs.declared.limits.Caps.{Caps}
-use Rattle.plan_base.specs.declared.limits.Kind.{Kind}
+use Rattle.plan_base.specs.{Caps, Kind}
 use Rattle.plan_base.specs.declared.limits.Kind.TheVariants as kind
 use Rattle.service_days.specs.DaysMeaning.{DaysMeaning}
-use Rattle.timetable_arcs.specs.Trips.{TripLists}
-use Rattle.opl_reader.specs.declared.objects.OsmNode.{OsmNode}
-use Rattle.opl_reader.specs.ObjectLists.{ObjectLists}
-use Rattle.road_profile.specs.Arcs.{AreRoadArcs}
-use Rattle.road_profile.specs.Legs.{place_of_node}
-use Rattle.road_profile.specs.declared.rows.RoadRow.{RoadRow}
+use Rattle.timetable_arcs.specs.{TripLists}
+use Rattle.opl_reader.specs.{OsmNode, ObjectLists.ObjectLists}
+use Rattle.road_profile.specs.{AreRoadArcs, place_of_node, RoadRow}
 use Rattle.gtfs_tables.specs.FeedLists.{FeedLists}
-use Rattle.mode_network.specs.NetworkLists.{NetworkLists}
-use Rattle.mode_network.specs.Rules.{AreInOrder}
-use Rattle.mode_network.specs.declared.nodes.Arc.{Arc}
-use Rattle.mode_network.specs.declared.nodes.Node.{Node}
-use Rattle.region_build.specs.Copies.{expanded}
-use Rattle.region_build.specs.Ends.{AreEnds, End}
-use Rattle.region_build.specs.Links.{AreLinks}
-use Rattle.region_build.specs.Roads.{arcs_of, road_nodes}
-use Rattle.region_build.specs.Sources.{AreTripSources, SourceLists}
-use Rattle.region_build.specs.StopNames.{AreEntries, stop_entry_nodes, stop_number}
-use Rattle.region_build.specs.Switches.{AreSwitches, switch_node}
-use Rattle.region_build.specs.declared.building.Lists.{Lists}
-use Rattle.region_build.specs.declared.stops.StopEntry.{StopEntry}
-use Rattle.region_build.specs.declared.tallies.Counts.{Counts}
+use Rattle.mode_network.specs.{NetworkLists.NetworkLists, AreInOrder, Arc, Node}
+use Rattle.region_build.specs.{Copies.expanded, Ends.AreEnds, Ends.End, Links.AreLinks, Roads.arcs_of, Roads.road_nodes, Sources.AreTripSources, Sources.SourceLists, StopNames.AreEntries, StopNames.stop_entry_nodes, StopNames.stop_number, Switches.AreSwitches, Switches.switch_node, declared.stops.StopEntry.StopEntry, declared.tallies.Counts.Counts}
+pub use Rattle.region_build.specs.declared.building.Lists.{Lists}
 
 -- the ends of a map's road arcs, their nodes in the order of ids and modes, and the road arcs between them
 pub record AreRoads (objects : ObjectLists) (ends : List End) (nodes : List Node) (arcs : List Arc) : Type 0 where

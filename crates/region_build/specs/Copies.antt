@@ -1,12 +1,10 @@
 -- The trips of a region: the trips of a feed, each as often as its headways have it leave.
-use Rattle.std.specs.Prelude.{ℕ, zero, suc, ◌+◌, ◌-◌, List, [], ◌∷◌, length, map, filter, Bool, true, not, ◌&&◌, nat_le, nat_lt, Option, None, Some, unwrap_or, if◌then◌else◌}
-use Rattle.std.specs.List.{flat_map, list_all}
+use Rattle.std.specs.Prelude.{ℕ, zero, suc, ◌+◌, ◌-◌, List, [], ◌∷◌, length, map, filter, Bool, true, not, ◌&&◌, nat_le, nat_lt, Option, None, Some, unwrap_or, if◌then◌else◌, flat_map}
+use Rattle.std.specs.List.{list_all}
 use Rattle.std.specs.Option.{option_or}
-use Rattle.plain_texts.specs.Escape.{escaped}
-use Rattle.gtfs_tables.specs.declared.calls.CallRow.{CallRow}
-use Rattle.gtfs_tables.specs.declared.frequencies.FrequencyRow.{FrequencyRow}
-use Rattle.timetable_arcs.specs.Trips.{TripLists}
-use Rattle.timetable_arcs.specs.declared.trips.Call.{Call}
+use Rattle.plain_texts.specs.{escaped}
+use Rattle.gtfs_tables.specs.{CallRow, FrequencyRow}
+use Rattle.timetable_arcs.specs.{TripLists, Call}
 use Rattle.region_build.specs.Sources.{SourceLists}
 
 -- when a trip leaves its first stop

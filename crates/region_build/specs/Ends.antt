@@ -1,12 +1,10 @@
 -- The ends of a map's road arcs: OSM nodes, each in the layer of a mode.
-use Rattle.std.specs.Prelude.{◌≡◌, ℕ, ℤ, List, [], ◌∷◌, ◌++◌, Bool, ◌&&◌, nat_eq, Option, if◌then◌else◌, position}
-use Rattle.std.specs.List.{flat_map, list_any}
-use Rattle.std.specs.List.Sorted.{IsPermutation, IsSorted}
+use Rattle.std.specs.Prelude.{◌≡◌, ℕ, ℤ, List, [], ◌∷◌, ◌++◌, Bool, ◌&&◌, nat_eq, Option, if◌then◌else◌, position, flat_map, IsPermutation, IsSorted}
+use Rattle.std.specs.List.{list_any}
 use Rattle.std.specs.Ordering.{int_cmp, int_eq, nat_cmp, ordering_then}
 use Rattle.std.specs.declared.cmp.Ordering.{Ordering}
-use Rattle.plan_base.specs.Modes.{number_of_mode}
-use Rattle.plan_base.specs.declared.modes.Mode.{Mode}
-use Rattle.road_profile.specs.declared.rows.RoadRow.{RoadRow}
+use Rattle.plan_base.specs.{number_of_mode, Mode}
+use Rattle.road_profile.specs.{RoadRow}
 
 -- the id of a node, and the mode
 abbrev pub End : Type 0

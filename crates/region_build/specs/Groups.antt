@@ -1,8 +1,6 @@
 -- Rows in the order of their trips.
-use Rattle.std.specs.Prelude.{ℕ, ◌≤◌, List, [], ◌∷◌, Bool, nat_eq, length}
-use Rattle.std.specs.List.{take_while}
-use Rattle.gtfs_tables.specs.declared.calls.CallRow.{CallRow}
-use Rattle.gtfs_tables.specs.declared.frequencies.FrequencyRow.{FrequencyRow}
+use Rattle.std.specs.Prelude.{ℕ, ◌≤◌, List, [], ◌∷◌, Bool, nat_eq, length, take_while}
+use Rattle.gtfs_tables.specs.{CallRow, FrequencyRow}
 
 -- the trips never fall, and are those from k on
 abbrev pub Ascend : {X : Type 0} → (X → ℕ) → ℕ → List X → Type 0

@@ -3,9 +3,8 @@ use Rattle.std.specs.Prelude.{◌≡◌, ℕ, List, length, count_by, sum_by, Bo
 use Rattle.std.specs.List.{list_all}
 use Rattle.service_days.specs.DaysMeaning.{DaysMeaning}
 use Rattle.gtfs_tables.specs.FeedLists.{FeedLists}
-use Rattle.region_build.specs.Copies.{departures_of, is_kept, runs}
-use Rattle.region_build.specs.Sources.{AreTripSources, SourceLists}
-use Rattle.region_build.specs.declared.left.LeftOut.{LeftOut}
+use Rattle.region_build.specs.{Copies.departures_of, Copies.is_kept, Copies.runs, Sources.AreTripSources, Sources.SourceLists}
+pub use Rattle.region_build.specs.declared.left.LeftOut.{LeftOut}
 
 -- fewer than two calls
 abbrev pub is_short : SourceLists → Bool

@@ -1,23 +1,11 @@
 -- The links between places and the layers of the road modes.
-use Rattle.std.specs.Prelude.{ℕ, ℤ, ◌+◌, List, [], ◌∷◌, ◌++◌, length, map, nat_eq, Bool, true, false, Option, None, Some, option_to_list, if◌then◌else◌}
-use Rattle.std.specs.List.{flat_map}
-use Rattle.plan_base.specs.Modes.{number_of_mode}
-use Rattle.plan_base.specs.declared.modes.Mode.{Mode}
-use Rattle.plan_base.specs.declared.modes.Mode.TheVariants.{Foot, Bike, Car}
-use Rattle.plan_base.specs.declared.places.Place.{Place}
-use Rattle.geo_length.specs.Durations.{duration_of}
-use Rattle.geo_length.specs.Nearest.{Point, IsNearest}
-use Rattle.opl_reader.specs.declared.objects.Amenity.{Amenity}
-use Rattle.opl_reader.specs.declared.objects.Amenity.TheVariants.{Nothing, Parking, BicycleParking, BicycleRental}
-use Rattle.opl_reader.specs.declared.objects.OsmNode.{OsmNode}
-use Rattle.mode_network.specs.declared.nodes.Arc.{Arc}
-use Rattle.mode_network.specs.declared.nodes.Node.{Node}
-use Rattle.mode_network.specs.declared.nodes.NodeKey.{NodeKey}
-use Rattle.mode_network.specs.declared.nodes.NodeKey.TheVariants.{Road, Stop, Switch}
-use Rattle.region_build.specs.Ends.{End, number_of_end}
-use Rattle.mode_network.specs.Rules.{AreInOrder}
-use Rattle.region_build.specs.declared.links.Join.{Join}
-use Rattle.region_build.specs.declared.stops.StopEntry.{StopEntry}
+use Rattle.std.specs.Prelude.{ℕ, ℤ, ◌+◌, List, [], ◌∷◌, ◌++◌, length, map, nat_eq, Bool, true, false, Option, None, Some, option_to_list, if◌then◌else◌, flat_map}
+use Rattle.plan_base.specs.{number_of_mode, Mode, Foot, Bike, Car, Place}
+use Rattle.geo_length.specs.{duration_of, Point, IsNearest}
+use Rattle.opl_reader.specs.{Amenity, Nothing, Parking, BicycleParking, BicycleRental, OsmNode}
+use Rattle.mode_network.specs.{Arc, Node, NodeKey, Road, Stop, Switch, AreInOrder}
+use Rattle.region_build.specs.{Ends.End, Ends.number_of_end, declared.stops.StopEntry.StopEntry}
+pub use Rattle.region_build.specs.declared.links.Join.{Join}
 
 -- A place is joined with the layer of a mode: there is a link to it from there, or from it to there, or both.
 abbrev pub join : Mode → Bool → Bool → Join

@@ -1,11 +1,8 @@
 -- The road nodes and the road arcs of a region.
-use Rattle.std.specs.Prelude.{ℕ, ℤ, List, Option, option_to_list, option_and_then, option_map}
-use Rattle.std.specs.List.{flat_map}
-use Rattle.plan_base.specs.declared.places.Place.{Place}
-use Rattle.mode_network.specs.declared.nodes.Arc.{Arc}
-use Rattle.mode_network.specs.declared.nodes.Node.{Node}
-use Rattle.mode_network.specs.declared.nodes.NodeKey.TheVariants.{Road}
-use Rattle.road_profile.specs.declared.rows.RoadRow.{RoadRow}
+use Rattle.std.specs.Prelude.{ℕ, ℤ, List, Option, option_to_list, option_and_then, option_map, flat_map}
+use Rattle.plan_base.specs.{Place}
+use Rattle.mode_network.specs.{Arc, Node, Road}
+use Rattle.road_profile.specs.{RoadRow}
 use Rattle.region_build.specs.Ends.{End, number_of_end}
 
 -- an end with the place of its node

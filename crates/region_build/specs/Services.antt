@@ -1,14 +1,8 @@
 -- The days on which the services of a feed run.
 use Rattle.std.specs.Prelude.{◌≡◌, ℕ, List, [], ◌∷◌, Bool, true, false, not, ◌&&◌, nat_lt, bytes_eq, filter, map, Option, None, Some, if◌then◌else◌}
-use Rattle.plan_base.specs.DaySets.{contains_day}
-use Rattle.plan_base.specs.declared.days.DaySet.{DaySet}
-use Rattle.service_days.specs.Days.{date_of, numbers_of}
-use Rattle.service_days.specs.DaysMeaning.{DaysMeaning}
-use Rattle.service_days.specs.Services.{runs_on}
-use Rattle.service_days.specs.declared.services.ServiceRule.{ServiceRule}
-use Rattle.gtfs_tables.specs.FeedLists.{FeedLists}
-use Rattle.gtfs_tables.specs.declared.dates.DateRow.{DateRow}
-use Rattle.gtfs_tables.specs.declared.services.ServiceRow.{ServiceRow}
+use Rattle.plan_base.specs.{contains_day, DaySet}
+use Rattle.service_days.specs.{date_of, numbers_of, runs_on, ServiceRule, DaysMeaning.DaysMeaning}
+use Rattle.gtfs_tables.specs.{FeedLists.FeedLists, DateRow, ServiceRow}
 
 -- the weekly rule of a service, if it has one
 abbrev pub rule_of : List ServiceRow → List ℕ → Option ServiceRule

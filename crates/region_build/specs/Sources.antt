@@ -1,18 +1,11 @@
 -- What the tables of a feed say of a trip.
-use Rattle.std.specs.Prelude.{◌≡◌, ℕ, ◌+◌, List, [], ◌∷◌, filter, unwrap_or, slice_get}
-use Rattle.std.specs.Option.{option_map}
-use Rattle.std.specs.List.Sorted.{IsPermutation, IsSorted}
+use Rattle.std.specs.Prelude.{◌≡◌, ℕ, ◌+◌, List, [], ◌∷◌, filter, unwrap_or, slice_get, option_map, IsPermutation, IsSorted}
 use Rattle.std.specs.Ordering.{nat_cmp, ordering_then}
-use Rattle.plan_base.specs.declared.days.DaySet.{DaySet}
+use Rattle.plan_base.specs.{DaySet}
 use Rattle.service_days.specs.DaysMeaning.{DaysMeaning}
-use Rattle.gtfs_tables.specs.FeedLists.{FeedLists}
-use Rattle.gtfs_tables.specs.declared.calls.CallRow.{CallRow}
-use Rattle.gtfs_tables.specs.declared.frequencies.FrequencyRow.{FrequencyRow}
-use Rattle.gtfs_tables.specs.declared.routes.RouteRow.{RouteRow}
-use Rattle.gtfs_tables.specs.declared.trips.TripRow.{TripRow}
-use Rattle.region_build.specs.declared.sources.Source.{Source}
-use Rattle.region_build.specs.Groups.{is_of, trip_of_call, trip_of_frequency}
-use Rattle.region_build.specs.Services.{AreDaysOf}
+use Rattle.gtfs_tables.specs.{FeedLists.FeedLists, CallRow, FrequencyRow, RouteRow, TripRow}
+pub use Rattle.region_build.specs.declared.sources.Source.{Source}
+use Rattle.region_build.specs.{Groups.is_of, Groups.trip_of_call, Groups.trip_of_frequency, Services.AreDaysOf}
 
 -- a trip's row in trips.txt and its id, the letter of its route, the days of its service, its calls in the order of
 -- their sequence numbers, and its headways in the order of frequencies.txt

@@ -1,12 +1,9 @@
 -- The stops of a feed in the order of their names.
-use Rattle.std.specs.Prelude.{ℕ, ◌+◌, List, [], ◌∷◌, nat_eq, Option, None, Some, if◌then◌else◌}
-use Rattle.std.specs.List.Sorted.{IsPermutation, IsSorted}
-use Rattle.plain_texts.specs.Escape.{escaped}
-use Rattle.gtfs_tables.specs.declared.stops.StopRow.{StopRow}
-use Rattle.mode_network.specs.declared.nodes.Node.{Node}
-use Rattle.mode_network.specs.declared.nodes.NodeKey.TheVariants.{Stop}
-use Rattle.mode_network.specs.Rules.{name_cmp}
-use Rattle.region_build.specs.declared.stops.StopEntry.{StopEntry}
+use Rattle.std.specs.Prelude.{ℕ, ◌+◌, List, [], ◌∷◌, nat_eq, Option, None, Some, if◌then◌else◌, IsPermutation, IsSorted}
+use Rattle.plain_texts.specs.{escaped}
+use Rattle.gtfs_tables.specs.{StopRow}
+use Rattle.mode_network.specs.{Node, Stop, name_cmp}
+pub use Rattle.region_build.specs.declared.stops.StopEntry.{StopEntry}
 
 -- the stops of a feed, counted from k
 abbrev pub entries_from : ℕ → List StopRow → List StopEntry

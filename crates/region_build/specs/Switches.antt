@@ -1,13 +1,8 @@
 -- The places of a map where travellers change between layers.
-use Rattle.std.specs.Prelude.{List, Bool, true, false, Option, None, Some, option_to_list, if◌then◌else◌}
-use Rattle.std.specs.List.{flat_map}
-use Rattle.std.specs.List.Sorted.{IsPermutation, IsSorted}
+use Rattle.std.specs.Prelude.{List, Bool, true, false, Option, None, Some, option_to_list, if◌then◌else◌, flat_map, IsPermutation, IsSorted}
 use Rattle.std.specs.Ordering.{int_cmp}
-use Rattle.opl_reader.specs.declared.objects.Amenity.{Amenity}
-use Rattle.opl_reader.specs.declared.objects.Amenity.TheVariants.{Nothing, Parking, BicycleParking, BicycleRental}
-use Rattle.opl_reader.specs.declared.objects.OsmNode.{OsmNode}
-use Rattle.mode_network.specs.declared.nodes.Node.{Node}
-use Rattle.mode_network.specs.declared.nodes.NodeKey.TheVariants.{Switch}
+use Rattle.opl_reader.specs.{Amenity, Nothing, Parking, BicycleParking, BicycleRental, OsmNode}
+use Rattle.mode_network.specs.{Node, Switch}
 
 -- a parking or a rental
 abbrev pub is_switch : Amenity → Bool

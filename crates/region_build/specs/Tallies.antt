@@ -1,12 +1,9 @@
 -- How much a region has of all that has a limit, found before any copy of a trip is made.
 use Rattle.std.specs.Prelude.{◌≡◌, ◌*◌, List, length, sum_by}
-use Rattle.timetable_arcs.specs.TripRules.{calls_of}
-use Rattle.mode_network.specs.NetworkLists.{NetworkLists, nodes_of}
-use Rattle.region_build.specs.Copies.{first_back, leaves_of}
-use Rattle.region_build.specs.Left.{AreLeft}
-use Rattle.region_build.specs.Sources.{SourceLists}
-use Rattle.region_build.specs.declared.tallies.Counts.{Counts}
-use Rattle.region_build.specs.declared.tallies.Tally.{Tally}
+use Rattle.timetable_arcs.specs.{calls_of}
+use Rattle.mode_network.specs.{NetworkLists.NetworkLists, nodes_of}
+use Rattle.region_build.specs.{Copies.first_back, Copies.leaves_of, Left.AreLeft, Sources.SourceLists}
+pub use Rattle.region_build.specs.{declared.tallies.Counts.Counts, declared.tallies.Tally.Tally}
 
 -- how many trips there are, how many calls they have together, the first row whose times go back, and what is left out
 pub record IsTally (sources : List SourceLists) (tally : Tally) : Type 0 where

@@ -1,6 +1,6 @@
 //! The build of a region.
 
-ghost use Rattle.std.specs.Prelude.{◌≡◌, ◌≤◌, ◌<◌, ◌^◌, length, map, None, IfErr, IfOk, OnOk};
+ghost use Rattle.std.specs.Prelude.{◌≡◌, ◌<◌, ◌^◌, length, map, None, IfErr, IfOk, OnOk};
 ghost use Rattle.std.specs.List.{AllByRecursion};
 ghost use Rattle.opl_reader.specs.ObjectLists.{AreObjects, ObjectLists};
 ghost use Rattle.gtfs_tables.specs.Sound.{IsFeed, IsFeedId};

@@ -1,6 +1,6 @@
 //! The trips of a region: the trips of a feed, each as often as its headways have it leave.
 
-ghost use Rattle.std.specs.Prelude.{◌≡◌, ◌++◌, All, length, map, nat_eq, true, IfOk, OnOk};
+ghost use Rattle.std.specs.Prelude.{◌≡◌, ◌++◌, All, map, nat_eq, true, IfOk, OnOk};
 ghost use Rattle.std.specs.HashMap.{get};
 ghost use Rattle.std.specs.List.{AllByRecursion, list_all};
 ghost use Rattle.gtfs_tables.specs.Sound.{IsFeedId};

@@ -65,7 +65,7 @@ fn layer_of(alloc: Global, mode: Mode, roads: &[Node]) -> Result<Grid, AllocErro
 }
 
 impl Layers {
-    ghost use Rattle.std.specs.Prelude.{◌≡◌, IfOk, IfSome, ◌≤◌, ◌^◌, ◌<◌};
+    ghost use Rattle.std.specs.Prelude.{◌≡◌, IfOk, IfSome, ◌≤◌, ◌<◌};
     ghost use Rattle.region_build.specs.Links.{FindsNearest};
     ghost use Rattle.region_build.specs.inside.Layers.{near_of, points_by};
 

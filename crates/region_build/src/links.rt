@@ -1,6 +1,6 @@
 //! Links between places and the layers of the road modes.
 
-ghost use Rattle.std.specs.Prelude.{◌≡◌, ◌+◌, ◌≤◌, ◌<◌, ◌^◌, ◌++◌, ◌∷◌, [], List, length, map, true, false, if◌then◌else◌, IfOk, OnOk};
+ghost use Rattle.std.specs.Prelude.{◌≡◌, ◌+◌, ◌<◌, ◌^◌, ◌++◌, ◌∷◌, [], List, length, map, true, false, if◌then◌else◌, IfOk, OnOk};
 ghost use Rattle.plan_base.specs.declared.places.Place.{Place};
 ghost use Rattle.region_build.specs.Links as spec;
 ghost use Rattle.region_build.specs.declared.links.Join.{Join};

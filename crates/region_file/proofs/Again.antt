@@ -1,29 +1,12 @@
 -- What is spelled is read: the lines of a network may stand where they do, and make the network again.
-use Rattle.std.proofs.Common.{◌≡◌, ℕ, suc, List, [], ◌∷◌, ◌++◌, length, get_or, map, refl, ap, ap₂, sym, ◌∙◌, subst, ◌<◌, ◌≤◌, ◌+◌, ◌-◌, true, cond, arith, append_assoc, length-append, add-zero, zero-add}
-use Rattle.std.specs.Prelude.{Option, Some, None, option_and_then, fold, zip, nat_eq, nat_le, nat_lt, ◌&&◌, All}
-use Rattle.std.specs.List.{AllByRecursion, flat_map}
-use Rattle.std.proofs.lemmas.Bool.Decides.{nat_tests}
-use Rattle.std.proofs.lemmas.List.{append-nil}
-use Rattle.std.proofs.lemmas.List.Elements.{All-head, All-tail}
-use Rattle.std.proofs.lemmas.List.Sums.{fold-append}
-use Rattle.plain_texts.specs.Course.{run_on}
-use Rattle.plan_base.specs.declared.places.Place.{Place}
-use Rattle.mode_network.specs.declared.nodes.Arc.{Arc}
-use Rattle.mode_network.specs.declared.nodes.Node.{Node}
-use Rattle.mode_network.specs.declared.nodes.NodeKey.{NodeKey}
-use Rattle.mode_network.specs.declared.nodes.NodeKey.TheVariants.{Road, Stop, Switch}
-use Rattle.mode_network.specs.NetworkLists.{NetworkLists}
-use Rattle.timetable_arcs.specs.declared.trips.Call.{Call}
-use Rattle.timetable_arcs.specs.Trips.{TripLists}
-use Rattle.mode_network.specs.Rules.{AreParts, IsRoad, IsStop, IsSwitch}
-use Rattle.region_file.specs.declared.lines.Line.{Line}
+use Rattle.plan_base.proofs.Common.{◌≡◌, ℕ, suc, List, [], ◌∷◌, ◌++◌, length, get_or, map, refl, ap, ap₂, sym, ◌∙◌, subst, ◌<◌, ◌≤◌, ◌+◌, ◌-◌, true, cond, arith, append_assoc, length-append, add-zero, zero-add, Option, Some, None, option_and_then, fold, zip, nat_eq, nat_le, nat_lt, ◌&&◌, All, AllByRecursion, flat_map, nat_tests, append-nil, All-head, All-tail, fold-append}
+use Rattle.plain_texts.specs.{run_on}
+use Rattle.plan_base.specs.{Place}
+use Rattle.mode_network.specs.{Arc, Node, NodeKey, Road, Stop, Switch, AreParts, IsRoad, IsStop, IsSwitch, NetworkLists.NetworkLists}
+use Rattle.timetable_arcs.specs.{Call, TripLists}
+use Rattle.region_file.specs.{Line, Progress, Section, key_line, node_line, stop_line, trip_lines, region_lines, behind, calls_due_behind, is_due, may_follow, may_stand, progress_after, rank, section_of, start, nothing, put}
 use Rattle.region_file.specs.declared.lines.Line.TheVariants as line
-use Rattle.region_file.specs.declared.section.Progress.{Progress}
-use Rattle.region_file.specs.declared.section.Section.{Section}
 use Rattle.region_file.specs.declared.section.Section.TheVariants as section
-use Rattle.region_file.specs.Lines.{key_line, node_line, stop_line, trip_lines, region_lines}
-use Rattle.region_file.specs.Sections.{behind, calls_due_behind, is_due, may_follow, may_stand, progress_after, rank, section_of, start}
-use Rattle.region_file.specs.Regions.{nothing, put}
 use Rattle.region_file.proofs.LastTrip.{call_last, with_one}
 
 -- The lines run to the end.

@@ -1,30 +1,16 @@
 -- Why the bytes of records are refused, and that records are read again.
-use Rattle.std.proofs.Common.{◌≡◌, ℕ, List, [], ◌++◌, length, map, Some, Result, Ok, Err, sym, ap, subst, ◌∙◌, ◌⊎◌, inl, inr}
-use Rattle.std.specs.List.{AllByRecursion}
-use Rattle.plain_texts.specs.Course.{run_on}
-use Rattle.plan_base.specs.declared.places.Place.{Place}
+use Rattle.plan_base.proofs.Common.{◌≡◌, ℕ, List, [], ◌++◌, length, map, Some, Result, Ok, Err, sym, ap, subst, ◌∙◌, ◌⊎◌, inl, inr, AllByRecursion}
+use Rattle.plain_texts.specs.{run_on}
+use Rattle.plan_base.specs.{Place}
 use Rattle.service_days.specs.DaysMeaning.{DaysMeaning}
-use Rattle.timetable_arcs.specs.Trips.{TripLists}
-use Rattle.mode_network.specs.declared.nodes.Arc.{Arc}
-use Rattle.mode_network.specs.declared.nodes.Node.{Node}
-use Rattle.mode_network.specs.NetworkLists.{NetworkLists}
-use Rattle.region_file.specs.declared.counts.Counts.{Counts}
-use Rattle.region_file.specs.declared.lines.Line.{Line}
+use Rattle.timetable_arcs.specs.{TripLists}
+use Rattle.mode_network.specs.{Arc, Node, NetworkLists.NetworkLists}
+use Rattle.region_file.specs.{Counts, Line, Section, record_bytes, announce, due_of, record_after, arc_front, road_front, stop_front, switch_front, FitsArc, FitsLine, node_line, many, network_records, stop_nodes, stops_read, trip_read}
 use Rattle.region_file.specs.declared.lines.Line.TheVariants as line
-use Rattle.region_file.specs.declared.section.Section.{Section}
 use Rattle.region_file.specs.declared.section.Section.TheVariants as section
-use Rattle.region_file.specs.Bytes.{record_bytes}
-use Rattle.region_file.specs.Due.{announce, due_of, record_after}
-use Rattle.region_file.specs.Fronts.{arc_front, road_front, stop_front, switch_front}
-use Rattle.region_file.specs.Lines.{FitsArc, FitsLine, node_line}
-use Rattle.region_file.specs.Records.{many, network_records, stop_nodes, stops_read, trip_read}
-use Rattle.region_file.proofs.Fits.{road_fits, switch_fits}
-use Rattle.file_records.specs.Reading.{one}
-use Rattle.file_records.proofs.NumberLaws.{IsBytes}
-use Rattle.file_records.proofs.Steps.{bind_err, bind_ok, ok_is}
-use Rattle.region_file.proofs.RecordLaws.{IsNamed, IsRoadNode, IsSwitchNode}
-use Rattle.region_file.proofs.StopLaws.{IsBadBehind, bad_arcs, bad_later, bad_links, bad_roads, bad_stops, bad_switches, bad_trips, resting, run_arcs, run_links, run_roads, run_stops, run_switches}
-use Rattle.region_file.proofs.WholeLaws.{Taken, arcs_stop, arcs_take, mapped_bytes, mapped_fit, roads_stop, roads_take, stop_row_line, stops_stop, stops_take, switches_stop, switches_take, trips_stop}
+use Rattle.region_file.proofs.{Fits.road_fits, Fits.switch_fits, RecordLaws.IsNamed, RecordLaws.IsRoadNode, RecordLaws.IsSwitchNode, StopLaws.IsBadBehind, StopLaws.bad_arcs, StopLaws.bad_later, StopLaws.bad_links, StopLaws.bad_roads, StopLaws.bad_stops, StopLaws.bad_switches, StopLaws.bad_trips, StopLaws.resting, StopLaws.run_arcs, StopLaws.run_links, StopLaws.run_roads, StopLaws.run_stops, StopLaws.run_switches, WholeLaws.Taken, WholeLaws.arcs_stop, WholeLaws.arcs_take, WholeLaws.mapped_bytes, WholeLaws.mapped_fit, WholeLaws.roads_stop, WholeLaws.roads_take, WholeLaws.stop_row_line, WholeLaws.stops_stop, WholeLaws.stops_take, WholeLaws.switches_stop, WholeLaws.switches_take, WholeLaws.trips_stop}
+use Rattle.file_records.specs.{one}
+use Rattle.file_records.proofs.{NumberLaws.IsBytes, Steps.bind_err, Steps.bind_ok, Steps.ok_is}
 
 -- stops, as names and nodes
 abbrev as_stops : List (List ℕ × Place) × List ℕ → Result ((List (List ℕ) × List Node) × List ℕ) ℕ

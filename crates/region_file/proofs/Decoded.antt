@@ -1,34 +1,12 @@
 -- What the bytes of a region spell: the laws of the whole.
-use Rattle.std.proofs.Common.{◌≡◌, ℕ, List, [], ◌∷◌, ◌++◌, length, map, take, drop, refl, ap, sym, ◌∙◌, subst, inl, inr}
-use Rattle.std.specs.Prelude.{Option, Some, None, Result, Ok, Err, fold, IfOk, IfErr}
-use Rattle.std.specs.Str.{bytes_eq}
-use Rattle.std.specs.List.{AllByRecursion}
-use Rattle.std.proofs.lemmas.List.{take-append-drop}
-use Rattle.std.proofs.lemmas.Option.{none-some, cond_some}
-use Rattle.std.proofs.lemmas.Slice.Eq.{bytes_eq-Decides}
-use Rattle.plain_texts.specs.Lines.{IsLine, lines_text, pieces}
-use Rattle.plain_texts.specs.Course.{Course, whole, bad, trailing, lines_from}
-use Rattle.plain_texts.proofs.Pieces.{pieces_lines, text_of_lines}
-use Rattle.plain_texts.proofs.Spaced.{spaced_is_line}
-use Rattle.plain_texts.proofs.Course.{has_pieces, course_takes, course_bad, course_trailing, course_again}
-use Rattle.plan_base.specs.declared.limits.Caps.{Caps}
-use Rattle.mode_network.specs.declared.faults.NetFault.{NetFault}
-use Rattle.mode_network.specs.NetworkLists.{NetworkLists}
-use Rattle.mode_network.specs.Rules.{first_fault}
-use Rattle.region_file.specs.declared.fault.RegionFault.{RegionFault}
-use Rattle.region_file.specs.declared.fault.RegionFault.TheVariants.{BadHead, BadRecord, Network, Trailing, OutOfMemory}
-use Rattle.region_file.specs.declared.lines.Line.{Line}
-use Rattle.region_file.specs.Lines.{FitsLine, IsRegion, head_line, region_lines, region_text, spelled}
-use Rattle.region_file.specs.Sections.{is_end, line_at, progress_after, start}
-use Rattle.region_file.specs.Regions.{AreSpelling, Gives, HasCause, IsDecoded, IsNoRegion, IsRefusedRegion, SpellNone, behind_head, lists_by, lists_in_text, network_of, nothing, or_fault, put, put_all, region_of}
-use Rattle.region_file.specs.Bytes.{region_bytes}
+use Rattle.plan_base.proofs.Common.{◌≡◌, ℕ, List, [], ◌∷◌, ◌++◌, length, map, take, drop, refl, ap, sym, ◌∙◌, subst, inl, inr, Option, Some, None, Result, Ok, Err, fold, IfOk, IfErr, bytes_eq, AllByRecursion, take-append-drop, none-some, cond_some, bytes_eq-Decides}
+use Rattle.plain_texts.specs.{IsLine, lines_text, pieces, whole, bad, trailing, lines_from, Course.Course}
+use Rattle.plain_texts.proofs.{Pieces.pieces_lines, Pieces.text_of_lines, Spaced.spaced_is_line, Course.has_pieces, Course.course_takes, Course.course_bad, Course.course_trailing, Course.course_again}
+use Rattle.plan_base.specs.{Caps}
+use Rattle.mode_network.specs.{NetFault, first_fault, NetworkLists.NetworkLists}
+use Rattle.region_file.specs.{RegionFault, BadHead, BadRecord, Network, Trailing, OutOfMemory, Line, FitsLine, IsRegion, head_line, region_lines, region_text, spelled, is_end, line_at, progress_after, start, AreSpelling, Gives, HasCause, IsDecoded, IsRefusedRegion, SpellNone, behind_head, lists_by, lists_in_text, network_of, nothing, or_fault, put, put_all, region_of, region_bytes}
 use Rattle.file_records.proofs.NumberLaws.{IsBytes}
-use Rattle.region_file.proofs.RecordsDecoded.{lists_in_again, not_text, records_cause, records_found}
-use Rattle.region_file.proofs.KindLaws.{words_are_words}
-use Rattle.region_file.proofs.SectionLaws.{reads_lines}
-use Rattle.region_file.proofs.Found.{all_lines}
-use Rattle.region_file.proofs.PartsMade.{are_parts}
-use Rattle.region_file.proofs.Again.{behind_end, runs_to_end, made_again}
+use Rattle.region_file.proofs.{RecordsDecoded.lists_in_again, RecordsDecoded.not_text, RecordsDecoded.records_cause, RecordsDecoded.records_found, KindLaws.words_are_words, SectionLaws.reads_lines, Found.all_lines, PartsMade.are_parts, Again.behind_end, Again.runs_to_end, Again.made_again}
 
 -- what a course gives
 same_Ok : {A E : Type 0} (x y : A) → ◌≡◌ {A = Result A E} (Ok x) (Ok y) → x ≡ y
@@ -157,17 +135,6 @@ unfolding region_of
 region_again caps bytes n h =
     ap (network_of caps) (either_again bytes n h.region h.spelled)
     ∙ ap (or_fault n) h.faultless
-
--- No two networks are spelled by the same bytes, and none is where they are refused.
-pub spell_one : (caps : Caps) (bytes : List ℕ) (n m : NetworkLists) → IsDecoded caps bytes n → IsDecoded caps bytes m → n ≡ m
-spell_one caps bytes n m one other = same_Ok {E = RegionFault} n m (sym (region_again caps bytes n one) ∙ region_again caps bytes m other)
-
-pub no_region : (caps : Caps) (bytes : List ℕ) (n : NetworkLists) (fault : RegionFault) → IsDecoded caps bytes n → IsNoRegion caps bytes fault → ⊥
-no_region caps bytes n BadHead is none = none.0 n is
-no_region caps bytes n (BadRecord at) is none = none.0 n is
-no_region caps bytes n (Network broken) is none = none.0 n is
-no_region caps bytes n (Trailing at) is none = none.0 n is
-no_region caps bytes n OutOfMemory is none = none
 
 spell_none : (caps : Caps) (bytes : List ℕ) (fault : RegionFault) → region_of caps bytes ≡ Err fault → SpellNone caps bytes
 spell_none caps bytes fault e n is = let again = region_again caps bytes n is in absurd (cc)

@@ -1,28 +1,12 @@
 -- What is written of a network is its spelling.
-use Rattle.std.proofs.Common.{◌≡◌, ℕ, suc, List, [], ◌∷◌, ◌++◌, ◌+◌, ◌<◌, length, get_or, map, take, refl, ap, ap₂, sym, ◌∙◌, arith, append_assoc}
-use Rattle.std.specs.Prelude.{All, zip}
-use Rattle.std.specs.List.{flat_map}
-use Rattle.std.proofs.lemmas.Grind.{flat_map-append}
-use Rattle.std.proofs.lemmas.List.{append-nil, flat_map_more, get_or_default, take_more}
-use Rattle.std.proofs.lemmas.List.Elements.{All-head, All-tail}
-use Rattle.std.proofs.lemmas.List.Folds.{flat_map-map}
+use Rattle.plan_base.proofs.Common.{◌≡◌, ℕ, suc, List, [], ◌∷◌, ◌++◌, ◌+◌, ◌<◌, length, get_or, map, take, refl, ap, ap₂, sym, ◌∙◌, arith, append_assoc, All, zip, flat_map, flat_map-append, append-nil, flat_map_more, get_or_default, take_more, All-head, All-tail, flat_map-map}
 use Rattle.std.proofs.lemmas.Slice.Zip.{get_or-zip, length-zip}
-use Rattle.plain_texts.specs.Lines.{lines_text}
-use Rattle.plan_base.specs.declared.places.Place.{Place}
-use Rattle.timetable_arcs.specs.Trips.{TripLists}
-use Rattle.mode_network.specs.declared.nodes.Node.{Node}
-use Rattle.mode_network.specs.declared.nodes.NodeKey.{NodeKey}
-use Rattle.mode_network.specs.declared.nodes.NodeKey.TheVariants.{Road, Stop, Switch}
-use Rattle.mode_network.specs.NetworkLists.{NetworkLists, nodes_of}
-use Rattle.mode_network.specs.Rules.{AreParts, IsRoad, IsStop, IsSwitch}
-use Rattle.region_file.specs.declared.lines.Line.{Line}
+use Rattle.plain_texts.specs.{lines_text}
+use Rattle.plan_base.specs.{Place}
+use Rattle.timetable_arcs.specs.{TripLists}
+use Rattle.mode_network.specs.{Node, NodeKey, Road, Stop, Switch, nodes_of, AreParts, IsRoad, IsStop, IsSwitch, NetworkLists.NetworkLists}
+use Rattle.region_file.specs.{Line, Format, Text, Binary, region_bytes, head_line, key_line, node_line, region_lines, region_text, spelled, stop_line, trip_lines, spelling, inside.head_in, inside.line_in, inside.line_text, inside.name_at, inside.named_line, inside.node_in, inside.trip_in}
 use Rattle.region_file.specs.declared.lines.Line.TheVariants as line
-use Rattle.region_file.specs.declared.format.Format.{Format}
-use Rattle.region_file.specs.declared.format.Format.TheVariants.{Text, Binary}
-use Rattle.region_file.specs.Bytes.{region_bytes}
-use Rattle.region_file.specs.Lines.{head_line, key_line, node_line, region_lines, region_text, spelled, stop_line, trip_lines}
-use Rattle.region_file.specs.Regions.{spelling}
-use Rattle.region_file.specs.inside.Texts.{head_in, line_in, line_text, name_at, named_line, node_in, trip_in}
 
 -- One element more of a list.
 module _ {X : Type 0} (xs : List X) (k : ℕ) (x : X) (within : k < length xs) (is : get_or xs k x ≡ x) where

@@ -1,27 +1,15 @@
 -- Each network has a spelling: each of its lines says what a line may say.
-use Rattle.std.proofs.Common.{◌≡◌, ℕ, List, [], ◌∷◌, ◌++◌, length, map, ◌<◌, ◌≤◌, ◌+◌, ◌^◌, true, arith, length-append}
-use Rattle.std.specs.Prelude.{All, nat_le, slice_index_or, zip}
-use Rattle.std.specs.List.{AllByRecursion, flat_map}
-use Rattle.std.proofs.lemmas.Bool.{leb-true}
-use Rattle.std.proofs.lemmas.List.Elements.{All-head, All-map, All-tail, All-weaker, recursion_from_All}
-use Rattle.std.proofs.lemmas.List.Sums.{get_or-le-sum_by}
-use Rattle.std.proofs.Math.Nat.{pow-le-pow_right}
-use Rattle.plain_texts.specs.Names.{is_name}
-use Rattle.plan_base.specs.declared.places.Place.{Place}
-use Rattle.service_days.specs.Zones.{AreKept}
+use Rattle.plan_base.proofs.Common.{◌≡◌, ℕ, List, [], ◌∷◌, ◌++◌, length, map, ◌<◌, ◌≤◌, ◌+◌, ◌^◌, true, arith, length-append, All, nat_le, slice_index_or, zip, AllByRecursion, flat_map, leb-true, All-head, All-map, All-tail, All-weaker, recursion_from_All, get_or-le-sum_by, pow-le-pow_right}
+use Rattle.plain_texts.specs.{is_name}
+use Rattle.plan_base.specs.{Place}
+use Rattle.service_days.specs.{AreKept}
 use Rattle.service_days.proofs.PlainDays.{first_year}
-use Rattle.timetable_arcs.specs.Trips.{TripLists}
+use Rattle.timetable_arcs.specs.{TripLists}
 use Rattle.timetable_arcs.proofs.TripLemmas.{IsKeptTrip, both_true, known_stops, trip_well, trips_kept}
-use Rattle.mode_network.specs.declared.nodes.Node.{Node}
-use Rattle.mode_network.specs.declared.nodes.NodeKey.{NodeKey}
-use Rattle.mode_network.specs.declared.nodes.NodeKey.TheVariants.{Road, Stop, Switch}
-use Rattle.mode_network.specs.NetworkLists.{NetworkLists}
-use Rattle.mode_network.specs.Rules.{IsNetwork, IsRoad, IsSwitch}
+use Rattle.mode_network.specs.{Node, NodeKey, Road, Stop, Switch, IsNetwork, IsRoad, IsSwitch, NetworkLists.NetworkLists}
 use Rattle.mode_network.proofs.RuleLemmas.{arcs_in_range, links_in_range, nodes_hold_roads}
-use Rattle.region_file.specs.Bytes.{FitCounts, counts_of}
-use Rattle.region_file.specs.declared.lines.Line.{Line}
+use Rattle.region_file.specs.{FitCounts, counts_of, Line, FitsArc, FitsCall, FitsDays, FitsLine, IsRegion, key_line, node_line, region_lines, stop_line, trip_lines}
 use Rattle.region_file.specs.declared.lines.Line.TheVariants as line
-use Rattle.region_file.specs.Lines.{FitsArc, FitsCall, FitsDays, FitsLine, IsRegion, key_line, node_line, region_lines, stop_line, trip_lines}
 
 -- lines that are made of items that are such
 each_fits : {X : Type 0} (f : X → Line) (P : X → Type 0) → ((x : X) → P x → FitsLine (f x)) → (xs : List X) → All P xs → AllByRecursion FitsLine (map f xs)

@@ -1,27 +1,13 @@
 -- What is read is spelled so: the lines of what was put are the lines that were put.
-use Rattle.std.proofs.Common.{◌≡◌, ℕ, suc, List, [], ◌∷◌, ◌++◌, length, map, refl, ap, ap₂, sym, ◌∙◌, ◌<◌, ◌≤◌, ◌+◌, ◌-◌, Bool, true, false, cond, arith, append_assoc, length-append, add-zero, zero-add, ◌⊎◌, inl, inr}
-use Rattle.std.specs.Prelude.{Some, None, fold, zip, nat_eq, nat_le, nat_lt, ◌&&◌}
-use Rattle.std.specs.List.{flat_map}
-use Rattle.std.proofs.lemmas.Bool.{cases_lt, false≢true}
-use Rattle.std.proofs.lemmas.Bool.Decides.{nat_tests}
-use Rattle.std.proofs.lemmas.List.{append-nil, map-append}
-use Rattle.std.proofs.lemmas.Option.{none-some, same_Some}
-use Rattle.plain_texts.specs.Course.{run_on}
-use Rattle.mode_network.specs.declared.nodes.Node.{Node}
-use Rattle.mode_network.specs.declared.nodes.NodeKey.TheVariants.{Road, Stop, Switch}
-use Rattle.mode_network.specs.NetworkLists.{NetworkLists}
-use Rattle.plan_base.specs.declared.days.DaySet.{DaySet}
-use Rattle.timetable_arcs.specs.declared.trips.Call.{Call}
-use Rattle.timetable_arcs.specs.Trips.{TripLists}
-use Rattle.region_file.specs.declared.lines.Line.{Line}
+use Rattle.plan_base.proofs.Common.{◌≡◌, ℕ, suc, List, [], ◌∷◌, ◌++◌, length, map, refl, ap, ap₂, sym, ◌∙◌, ◌<◌, ◌≤◌, ◌+◌, ◌-◌, Bool, true, false, cond, arith, append_assoc, length-append, add-zero, zero-add, ◌⊎◌, inl, inr, Some, None, fold, zip, nat_eq, nat_le, nat_lt, ◌&&◌, flat_map, cases_lt, false≢true, nat_tests, append-nil, map-append, none-some, same_Some}
+use Rattle.plain_texts.specs.{run_on}
+use Rattle.mode_network.specs.{Node, Road, Stop, Switch, NetworkLists.NetworkLists}
+use Rattle.plan_base.specs.{DaySet}
+use Rattle.timetable_arcs.specs.{Call, TripLists}
+use Rattle.region_file.specs.{Line, Progress, node_line, stop_line, trip_lines, region_lines, behind, behind_days, calls_due_behind, is_due, is_end, may_follow, may_stand, progress_after, rank, section_of, start, nothing, put, with_last_call}
 use Rattle.region_file.specs.declared.lines.Line.TheVariants as line
-use Rattle.region_file.specs.declared.section.Progress.{Progress}
 use Rattle.region_file.specs.declared.section.Section.TheVariants as section
-use Rattle.region_file.specs.Lines.{node_line, stop_line, trip_lines, region_lines}
-use Rattle.region_file.specs.Sections.{behind, behind_days, calls_due_behind, is_due, is_end, may_follow, may_stand, progress_after, rank, section_of, start}
-use Rattle.region_file.specs.Regions.{nothing, put, with_last_call}
-use Rattle.region_file.proofs.LastTrip.{length-with_last_call}
-use Rattle.region_file.proofs.SectionLaws.{stops}
+use Rattle.region_file.proofs.{LastTrip.length-with_last_call, SectionLaws.stops}
 
 -- the lines of trips so far, where so many calls of the last trip are due
 abbrev trips_so_far : ℕ → List TripLists → List Line

@@ -1,25 +1,12 @@
 -- What is read at the front of bytes is what was written there, and what was written is read again.
-use Rattle.std.proofs.Common.{◌≡◌, ℕ, zero, suc, ℤ, ◌+◌, ◌*◌, ◌/◌, ◌%◌, ◌^◌, ◌<◌, ◌≤◌, true, cond, ltb, List, [], ◌∷◌, ◌++◌, length, take, drop, Some, None, refl, sym, ap, ap₂, subst, ◌∙◌, append_assoc, length-append, arith}
-use Rattle.std.specs.Prelude.{nat_lt, nat_le, unsigned_abs, pos, negsuc, FitsSigned}
-use Rattle.std.specs.Int.{w32, w64, cast_signed, cast_unsigned, to_be_bytes}
-use Rattle.std.proofs.lemmas.Bool.{and_parts, ltb-true, lt-ltb, le-leb, leb-true}
+use Rattle.plan_base.proofs.Common.{◌≡◌, ℕ, zero, suc, ℤ, ◌+◌, ◌*◌, ◌/◌, ◌%◌, ◌^◌, ◌<◌, ◌≤◌, true, cond, ltb, List, [], ◌∷◌, ◌++◌, length, take, drop, Some, None, refl, sym, ap, ap₂, subst, ◌∙◌, append_assoc, length-append, arith, nat_lt, nat_le, unsigned_abs, pos, negsuc, FitsSigned, w32, w64, cast_signed, cast_unsigned, to_be_bytes, and_parts, ltb-true, lt-ltb, le-leb, leb-true, to_z-of_z, none-some, same_Some, cond_some, option_and_then_some, take_at, drop_at, take-append-drop, length-take}
 use Rattle.std.proofs.Math.Facts.{Fits-lt-pow, Fits-of_z}
-use Rattle.std.proofs.lemmas.Int.{to_z-of_z}
-use Rattle.std.proofs.lemmas.Option.{none-some, same_Some, cond_some, option_and_then_some}
-use Rattle.std.proofs.lemmas.List.{take_at, drop_at, take-append-drop, length-take}
-use Rattle.file_records.specs.Numbers.{number_front, signed_bytes, signed_front}
-use Rattle.file_records.proofs.Steps.{and_then, mapped}
-use Rattle.file_records.proofs.NumberLaws.{IsBytes, IsBytes-drop, Takes, Takes-then, wide32, wide64, number_takes, number_again, signed_takes, signed_again}
-use Rattle.plain_texts.specs.Names.{is_name}
-use Rattle.plain_texts.specs.Numbers.{IsId}
-use Rattle.plan_base.specs.Modes.{mode_numbered, number_of_mode}
-use Rattle.plan_base.specs.declared.modes.Mode.{Mode}
-use Rattle.plan_base.specs.declared.modes.Mode.TheVariants.{Foot, Bike, Car}
-use Rattle.plan_base.specs.declared.places.Place.{Place}
-use Rattle.plan_base.specs.PlaceOf.{place_of}
+use Rattle.file_records.specs.{number_front, signed_bytes, signed_front}
+use Rattle.file_records.proofs.{Steps.and_then, Steps.mapped, NumberLaws.IsBytes, NumberLaws.IsBytes-drop, NumberLaws.Takes, NumberLaws.Takes-then, NumberLaws.wide32, NumberLaws.wide64, NumberLaws.number_takes, NumberLaws.number_again, NumberLaws.signed_takes, NumberLaws.signed_again}
+use Rattle.plain_texts.specs.{is_name, IsId}
+use Rattle.plan_base.specs.{mode_numbered, number_of_mode, Mode, Foot, Bike, Car, Place, place_of}
 use Rattle.plan_base.proofs.PlaceAgain.{place_again}
-use Rattle.region_file.specs.Bytes.{word_bytes, counted_bytes, place_bytes, set_bytes}
-use Rattle.region_file.specs.Fronts.{byte_front, counted_front, mode_front, name_front, place_front, id_front, set_front}
+use Rattle.region_file.specs.{word_bytes, counted_bytes, place_bytes, set_bytes, byte_front, counted_front, mode_front, name_front, place_front, id_front, set_front}
 use Rattle.region_file.proofs.KindLaws.{place_of_takes, size_below}
 
 pub word_takes : (bytes : List ℕ) (x : ℕ × List ℕ) → IsBytes bytes → number_front w32 bytes ≡ Some x → Takes bytes (word_bytes x.0) x.1 × (x.0 < 2 ^ 32)

@@ -1,22 +1,10 @@
 -- The head of a region in bytes: what is read is spelled so, and what is spelled so is read.
-use Rattle.std.proofs.Common.{◌≡◌, ℕ, ◌^◌, ◌<◌, ◌≤◌, Bool, true, false, cond, List, ◌++◌, length, take, drop, Some, None, Ok, refl, ap, ap₂, subst, ◌∙◌, append_assoc, arith}
-use Rattle.std.specs.Prelude.{Option, option_map}
-use Rattle.std.specs.Int.{w32}
-use Rattle.std.specs.Str.{bytes_eq}
-use Rattle.std.proofs.lemmas.Bool.{and_parts, leb-true}
-use Rattle.std.proofs.lemmas.Option.{none-some, same_Some, option_and_then_some}
-use Rattle.file_records.specs.Numbers.{number_front}
-use Rattle.file_records.proofs.Steps.{and_then, mapped}
-use Rattle.file_records.proofs.NumberLaws.{IsBytes, Takes, Takes-then, begins_with}
-use Rattle.service_days.specs.DaysMeaning.{DaysMeaning}
-use Rattle.service_days.specs.Zones.{days_made, is_rule_text}
-use Rattle.region_file.specs.declared.counts.Counts.{Counts}
-use Rattle.region_file.specs.Bytes.{FitCounts, counts_bytes, head_bytes, magic_of, plain_magic, rule_bytes, word_bytes, zoned_magic}
-use Rattle.region_file.specs.Fronts.{counted_front, counts_front, head_front, magic_front, rule_front}
-use Rattle.region_file.specs.Kinds.{days_if_made}
-use Rattle.region_file.specs.Lines.{FitsDays}
-use Rattle.region_file.proofs.FrontLaws.{counted_again, counted_takes, word_again, word_takes}
-use Rattle.region_file.proofs.KindLaws.{fits_days, made_by, made_in, made_takes}
+use Rattle.plan_base.proofs.Common.{◌≡◌, ℕ, ◌^◌, ◌<◌, ◌≤◌, Bool, true, false, cond, List, ◌++◌, length, take, drop, Some, None, Ok, refl, ap, ap₂, subst, ◌∙◌, append_assoc, arith, Option, option_map, w32, bytes_eq, and_parts, leb-true, none-some, same_Some, option_and_then_some}
+use Rattle.file_records.specs.{number_front}
+use Rattle.file_records.proofs.{Steps.and_then, Steps.mapped, NumberLaws.IsBytes, NumberLaws.Takes, NumberLaws.Takes-then, NumberLaws.begins_with}
+use Rattle.service_days.specs.{DaysMeaning.DaysMeaning, days_made, is_rule_text}
+use Rattle.region_file.specs.{Counts, FitCounts, counts_bytes, head_bytes, magic_of, plain_magic, rule_bytes, word_bytes, zoned_magic, counted_front, counts_front, head_front, magic_front, rule_front, days_if_made, FitsDays}
+use Rattle.region_file.proofs.{FrontLaws.counted_again, FrontLaws.counted_takes, FrontLaws.word_again, FrontLaws.word_takes, KindLaws.fits_days, KindLaws.made_by, KindLaws.made_in, KindLaws.made_takes}
 
 -- ---- the magic
 

@@ -1,45 +1,16 @@
 -- The two laws of a line by itself: what is read is spelled so, and what is spelled so is read.
-use Rattle.std.proofs.Common.{◌≡◌, ℕ, zero, suc, ℤ, List, [], ◌∷◌, length, get_or, refl, ap, ap₂, sym, ◌∙◌, subst, ◌<◌, ◌≤◌, ◌+◌, ◌-◌, ◌*◌, ◌%◌, ◌^◌, Bool, true, false, cond, arith}
-use Rattle.std.specs.Prelude.{Option, Some, None, option_map, Result, Ok, Err, codes, decimal, unsigned_abs, nat_eq, nat_le, nat_lt, not, ◌==◌, ◌&&◌, position, int_le, pos, neg_ℤ, ◌≤ℤ◌}
-use Rattle.std.specs.Fmt.{signed_decimal}
-use Rattle.std.specs.Str.{bytes_eq}
-use Rattle.std.specs.List.{AllByRecursion, list_all}
-use Rattle.std.proofs.lemmas.Bool.{false≢true}
-use Rattle.std.proofs.lemmas.Bool.Decides.{nat_tests}
-use Rattle.std.proofs.lemmas.Int.{ints}
-use Rattle.std.proofs.lemmas.List.Elements.{All-weaker}
-use Rattle.std.proofs.lemmas.List.Quantifiers.{position-Some}
-use Rattle.std.proofs.lemmas.List.Sums.{AllPass-from_list_all}
-use Rattle.std.proofs.lemmas.Option.{none-some, same_Some, cond_some, option_and_then_some}
+use Rattle.plan_base.proofs.Common.{◌≡◌, ℕ, zero, suc, ℤ, List, [], ◌∷◌, length, get_or, refl, ap, ap₂, sym, ◌∙◌, subst, ◌<◌, ◌≤◌, ◌+◌, ◌-◌, ◌*◌, ◌%◌, ◌^◌, Bool, true, false, cond, arith, Option, Some, None, option_map, Result, Ok, Err, codes, decimal, unsigned_abs, nat_eq, nat_le, nat_lt, not, ◌==◌, ◌&&◌, position, int_le, pos, neg_ℤ, ◌≤ℤ◌, signed_decimal, bytes_eq, AllByRecursion, list_all, false≢true, nat_tests, ints, All-weaker, position-Some, AllPass-from_list_all, none-some, same_Some, cond_some, option_and_then_some}
 use Rattle.file_records.proofs.Steps.{mapped, same_bytes}
-use Rattle.plain_texts.specs.Lines.{IsWord, words_of, spaced}
-use Rattle.plain_texts.specs.Hexadecimal.{hexadecimal, hexadecimal_at}
-use Rattle.plain_texts.specs.Names.{is_name, name_of}
-use Rattle.plain_texts.specs.Numbers.{IsId, id_at, number_at, signed_at}
-use Rattle.plain_texts.proofs.Decimal.{number_takes, number_again}
-use Rattle.plain_texts.proofs.Hexadecimal.{hexadecimal_takes, hexadecimal_again}
-use Rattle.plain_texts.proofs.Signed.{signed_takes, signed_again}
-use Rattle.plain_texts.proofs.Spaced.{spaced-words_of, words_of-spaced, word_by_test, decimal_is_word, signed_is_word, hexadecimal_is_word, name_is_word}
-use Rattle.plan_base.specs.Modes.{mode_named, mode_numbered}
-use Rattle.plan_base.specs.declared.modes.Mode.{Mode}
-use Rattle.plan_base.specs.declared.modes.Mode.TheVariants.{Foot, Bike, Car}
-use Rattle.plan_base.specs.declared.places.Place.{Place}
-use Rattle.plan_base.specs.PlaceOf.{place_of, shown}
+use Rattle.plain_texts.specs.{IsWord, words_of, spaced, hexadecimal, hexadecimal_at, is_name, name_of, IsId, id_at, number_at, signed_at}
+use Rattle.plain_texts.proofs.{Decimal.number_takes, Decimal.number_again, Hexadecimal.hexadecimal_takes, Hexadecimal.hexadecimal_again, Signed.signed_takes, Signed.signed_again, Spaced.spaced-words_of, Spaced.words_of-spaced, Spaced.word_by_test, Spaced.decimal_is_word, Spaced.signed_is_word, Spaced.hexadecimal_is_word, Spaced.name_is_word}
+use Rattle.plan_base.specs.{mode_named, mode_numbered, Mode, Foot, Bike, Car, Place, place_of, shown, road_names, transit_names}
 use Rattle.plan_base.proofs.PlaceAgain.{place_again}
-use Rattle.service_days.specs.DaysMeaning.{DaysMeaning}
-use Rattle.service_days.specs.Days.{is_day_count, is_first_date, new_days, plain_days}
-use Rattle.service_days.specs.Zones.{Zone, dates_and_next, days_in_read, days_made, days_with_bases, have_day_lengths, is_rule_text, read_zone, zone_days}
-use Rattle.service_days.specs.declared.range.RangeFault.{RangeFault}
-use Rattle.service_days.specs.declared.range.RangeFault.TheVariants.{BadCount, BadDate, BadZone}
-use Rattle.timetable_arcs.specs.declared.trips.Call.{Call}
-use Rattle.search_laws.specs.Letters.{IsLetter}
-use Rattle.mode_network.specs.declared.nodes.Arc.{Arc}
-use Rattle.region_file.specs.declared.lines.Line.{Line}
+use Rattle.service_days.specs.{DaysMeaning.DaysMeaning, is_day_count, is_first_date, new_days, plain_days, Zone, dates_and_next, days_in_read, days_made, days_with_bases, have_day_lengths, is_rule_text, read_zone, zone_days, RangeFault, BadCount, BadDate, BadZone}
+use Rattle.timetable_arcs.specs.{Call}
+use Rattle.search_laws.specs.{IsLetter}
+use Rattle.mode_network.specs.{Arc}
+use Rattle.region_file.specs.{Line, letter_at, letter_name, FitsArc, FitsCall, FitsDays, FitsLine, FitsTrip, arc_words, call_words, flags_of, mode_name, place_words, rule_words, spelled, words, arc_of_words, call_of_words, days_of_words, end_of_words, line_of_kind, line_of, line_of_words, days_if_made, place_of_words, road_of_words, rule_of_words, stop_of_words, switch_of_words, trip_of_words, number_of_word}
 use Rattle.region_file.specs.declared.lines.Line.TheVariants as line
-use Rattle.plan_base.specs.LetterNames.{road_names, transit_names}
-use Rattle.region_file.specs.Letters.{letter_at, letter_name}
-use Rattle.region_file.specs.Lines.{FitsArc, FitsCall, FitsDays, FitsLine, FitsTrip, arc_words, call_words, flags_of, mode_name, place_words, rule_words, spelled, words}
-use Rattle.region_file.specs.Kinds.{arc_of_words, call_of_words, days_of_words, end_of_words, line_of_kind, line_of, line_of_words, days_if_made, place_of_words, road_of_words, rule_of_words, stop_of_words, switch_of_words, trip_of_words, number_of_word}
 
 -- numbers and ids
 word_takes : (text : List ℕ) (n : ℕ) → number_of_word text ≡ Some n → (n < 2 ^ 32) × (text ≡ decimal n)

@@ -1,8 +1,7 @@
 -- One call more of the last trip.
-use Rattle.std.proofs.Common.{◌≡◌, ℕ, zero, suc, List, [], ◌∷◌, ◌++◌, length, get_or, set, refl, ap, arith}
-use Rattle.timetable_arcs.specs.declared.trips.Call.{Call}
-use Rattle.timetable_arcs.specs.Trips.{TripLists}
-use Rattle.region_file.specs.Regions.{with_last_call}
+use Rattle.plan_base.proofs.Common.{◌≡◌, ℕ, zero, suc, List, [], ◌∷◌, ◌++◌, length, get_or, set, refl, ap, arith}
+use Rattle.timetable_arcs.specs.{Call, TripLists}
+use Rattle.region_file.specs.{with_last_call}
 
 abbrev pub with_one : TripLists → Call → TripLists
 with_one trip call = record trip { calls = trip.calls ++ call ∷ [] }

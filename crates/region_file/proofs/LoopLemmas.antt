@@ -1,15 +1,10 @@
 -- Reading records one after the other, as a loop does.
-use Rattle.std.proofs.Common.{◌≡◌, ℕ, suc, ◌-◌, ◌+◌, ◌≤◌, ◌<◌, List, [], ◌∷◌, ◌++◌, length, map, Some, None, Result, Ok, Err, refl, sym, ap, ap₂, ◌∙◌, append_assoc, append-nil, arith}
-use Rattle.std.specs.Prelude.{Option}
-use Rattle.plan_base.specs.declared.places.Place.{Place}
-use Rattle.mode_network.specs.declared.nodes.Node.{Node}
-use Rattle.mode_network.specs.declared.nodes.NodeKey.TheVariants.{Stop}
-use Rattle.region_file.specs.Fronts.{stop_front}
-use Rattle.file_records.specs.declared.halt.Halt.{Halt}
-use Rattle.file_records.specs.declared.halt.Halt.TheVariants.{Memory, Left}
-use Rattle.file_records.specs.Reading.{◌>>=◌, HaltsAs, one, or_left, with_first}
+use Rattle.plan_base.proofs.Common.{◌≡◌, ℕ, suc, ◌-◌, ◌+◌, ◌≤◌, ◌<◌, List, [], ◌∷◌, ◌++◌, length, map, Some, None, Result, Ok, Err, refl, sym, ap, ap₂, ◌∙◌, append_assoc, append-nil, arith, Option}
+use Rattle.plan_base.specs.{Place}
+use Rattle.mode_network.specs.{Node, Stop}
+use Rattle.region_file.specs.{stop_front, many, stop_nodes, stops_read}
+use Rattle.file_records.specs.{Halt, Memory, Left, ◌>>=◌, HaltsAs, one, or_left, with_first}
 use Rattle.file_records.proofs.RowLaws.{regroup, with_front}
-use Rattle.region_file.specs.Records.{many, stop_nodes, stops_read}
 
 -- one record that is read, or is not
 pub one_is : {X : Type 0} (front : List ℕ → Option (X × List ℕ)) (bytes : List ℕ) (x : X × List ℕ) → front bytes ≡ Some x → one front bytes ≡ Ok x

@@ -1,22 +1,10 @@
 -- The laws of records in a row, for every kind of record that has them by itself.
-use Rattle.std.proofs.Common.{◌≡◌, ℕ, zero, suc, ◌<◌, List, [], ◌∷◌, ◌++◌, length, Some, None, Result, Ok, Err, refl, sym, ap, subst, ◌∙◌, append_assoc, arith, ◌⊎◌, inl, inr}
-use Rattle.std.specs.Prelude.{Option}
-use Rattle.std.specs.List.{flat_map, AllByRecursion}
-use Rattle.std.proofs.lemmas.List.Concat.{flat_map-cons}
-use Rattle.std.proofs.lemmas.Option.{none-some}
-use Rattle.timetable_arcs.specs.declared.trips.Call.{Call}
-use Rattle.timetable_arcs.specs.Trips.{TripLists}
-use Rattle.region_file.specs.Bytes.{call_bytes, trip_bytes}
-use Rattle.region_file.specs.Fronts.{call_front, trip_front}
-use Rattle.region_file.specs.Lines.{FitsCall, FitsTrip}
-use Rattle.region_file.specs.inside.Texts.{trip_records}
-use Rattle.file_records.specs.Reading.{◌>>=◌, one, or_left, with_first}
-use Rattle.file_records.proofs.Steps.{ok_is, err_is, bind_ok, bind_err, bind_is}
-use Rattle.file_records.proofs.NumberLaws.{IsBytes, Takes, Takes-then}
-use Rattle.file_records.proofs.RowLaws.{first_ok, first_err}
-use Rattle.region_file.specs.Records.{many, trip_read}
-use Rattle.region_file.proofs.LoopLemmas.{many_ok}
-use Rattle.region_file.proofs.RecordLaws.{FitsHead, head_bytes_of, call_again, call_takes, trip_again, trip_takes}
+use Rattle.plan_base.proofs.Common.{◌≡◌, ℕ, zero, suc, ◌<◌, List, [], ◌∷◌, ◌++◌, length, Some, None, Result, Ok, Err, refl, sym, ap, subst, ◌∙◌, append_assoc, arith, ◌⊎◌, inl, inr, Option, flat_map, AllByRecursion, flat_map-cons, none-some}
+use Rattle.timetable_arcs.specs.{Call, TripLists}
+use Rattle.region_file.specs.{call_bytes, trip_bytes, call_front, trip_front, FitsCall, FitsTrip, many, trip_read, inside.trip_records}
+use Rattle.file_records.specs.{◌>>=◌, one, or_left, with_first}
+use Rattle.file_records.proofs.{Steps.ok_is, Steps.err_is, Steps.bind_ok, Steps.bind_err, Steps.bind_is, NumberLaws.IsBytes, NumberLaws.Takes, NumberLaws.Takes-then, RowLaws.first_ok, RowLaws.first_err}
+use Rattle.region_file.proofs.{LoopLemmas.many_ok, RecordLaws.FitsHead, RecordLaws.head_bytes_of, RecordLaws.call_again, RecordLaws.call_takes, RecordLaws.trip_again, RecordLaws.trip_takes}
 
 -- fewer records are spelled in turn, and the reading stops in the one where the rest begins
 pub record StopsAt {X : Type 0} (text : X → List ℕ) (Fits : X → Type 0) (Stop : List ℕ → ℕ → Type 0) (count : ℕ) (bytes : List ℕ) (left : ℕ) : Type 0 where

@@ -1,16 +1,9 @@
 -- One line more of a region text, for the loop that reads it.
-use Rattle.std.proofs.Common.{◌≡◌, ℕ, List, length, refl, ap, ◌∙◌, ◌<◌, ◌+◌, true, false, arith}
-use Rattle.std.proofs.lemmas.Bool.Decides.{nat_tests}
-use Rattle.std.specs.Prelude.{Some, None, Ok, Err, ◌==◌}
-use Rattle.plain_texts.specs.Course.{Course, whole, bad, trailing, onto, lines_from}
-use Rattle.plain_texts.specs.Lines.{pieces, next_line_of}
+use Rattle.plan_base.proofs.Common.{◌≡◌, ℕ, List, length, refl, ap, ◌∙◌, ◌<◌, ◌+◌, true, false, arith, nat_tests, Some, None, Ok, Err, ◌==◌}
+use Rattle.plain_texts.specs.{Course.Course, whole, bad, trailing, onto, lines_from, pieces, next_line_of}
 use Rattle.plain_texts.proofs.Course.{course_no_line, course_bad_line, course_good_line, course_last_line, course_more_lines}
 use Rattle.mode_network.specs.NetworkLists.{NetworkLists}
-use Rattle.region_file.specs.declared.fault.RegionFault.TheVariants.{BadRecord, Trailing}
-use Rattle.region_file.specs.declared.lines.Line.{Line}
-use Rattle.region_file.specs.declared.section.Progress.{Progress}
-use Rattle.region_file.specs.Sections.{is_end, line_at}
-use Rattle.region_file.specs.Regions.{put, put_all}
+use Rattle.region_file.specs.{BadRecord, Trailing, Line, Progress, is_end, line_at, put, put_all}
 
 pub is_some : (text : List ℕ) → (length text == 0) ≡ false → 0 < length text
 is_some text e = grind (arith, nat_tests)

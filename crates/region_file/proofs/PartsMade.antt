@@ -1,21 +1,9 @@
 -- The lines of a region text make the parts of a network.
-use Rattle.std.proofs.Common.{◌≡◌, ℕ, List, [], ◌∷◌, ◌++◌, length, get_or, refl, sym, subst, ◌<◌, ◌≤◌, arith, length-append, ◌⊎◌, inl, inr}
-use Rattle.std.specs.Prelude.{fold}
-use Rattle.std.specs.List.{AllByRecursion}
-use Rattle.std.proofs.lemmas.Bool.{cases_lt}
-use Rattle.std.proofs.lemmas.List.{get_or_append_left}
-use Rattle.std.proofs.lemmas.List.Elements.{All-nil, All-push}
-use Rattle.std.proofs.Math.Seq.{get_or-append_seam}
-use Rattle.mode_network.specs.declared.nodes.Arc.{Arc}
-use Rattle.mode_network.specs.declared.nodes.Node.{Node}
-use Rattle.mode_network.specs.declared.nodes.NodeKey.TheVariants.{Road, Stop, Switch}
-use Rattle.mode_network.specs.NetworkLists.{NetworkLists}
-use Rattle.mode_network.specs.Rules.{AreParts, IsRoad, IsStop, IsSwitch}
-use Rattle.plan_base.specs.declared.places.Place.{Place}
-use Rattle.region_file.specs.declared.lines.Line.{Line}
+use Rattle.plan_base.proofs.Common.{◌≡◌, ℕ, List, [], ◌∷◌, ◌++◌, length, get_or, refl, sym, subst, ◌<◌, ◌≤◌, arith, length-append, ◌⊎◌, inl, inr, fold, AllByRecursion, cases_lt, get_or_append_left, All-nil, All-push, get_or-append_seam}
+use Rattle.mode_network.specs.{Arc, Node, Road, Stop, Switch, AreParts, IsRoad, IsStop, IsSwitch, NetworkLists.NetworkLists}
+use Rattle.plan_base.specs.{Place}
+use Rattle.region_file.specs.{Line, FitsLine, nothing, put}
 use Rattle.region_file.specs.declared.lines.Line.TheVariants as line
-use Rattle.region_file.specs.Lines.{FitsLine}
-use Rattle.region_file.specs.Regions.{nothing, put}
 
 stops_push : (stops : List Node) (place : Place) → ((k : ℕ) (d : Node) → k < length stops → IsStop k (get_or stops k d).key) → (k : ℕ) (d : Node) → k < length (stops ++ record { key = Stop (length stops); place = place } ∷ []) → IsStop k (get_or (stops ++ record { key = Stop (length stops); place = place } ∷ []) k d).key
 stops_push stops place h k d lt = by_place (cases_lt k (length stops))

@@ -1,5 +1,5 @@
 -- What was pushed part by part was pushed in one.
-use Rattle.std.proofs.Common.{◌≡◌, ℕ, List, ◌++◌, ap, refl, ◌∙◌, append_assoc}
+use Rattle.plan_base.proofs.Common.{◌≡◌, ℕ, List, ◌++◌, ap, refl, ◌∙◌, append_assoc}
 
 pub two : (old first second a b : List ℕ) → first ≡ old ++ a → second ≡ first ++ b → second ≡ old ++ (a ++ b)
 two old first second a b is_first is_second = is_second ∙ ap (λ t. t ++ b) is_first ∙ append_assoc old a b

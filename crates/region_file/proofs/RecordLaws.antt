@@ -1,29 +1,15 @@
 -- The two laws of each record: what is read is spelled so, and what is spelled so is read.
-use Rattle.std.proofs.Common.{◌≡◌, ℕ, ◌%◌, ◌≤◌, true, cond, List, [], ◌∷◌, ◌++◌, Some, None, refl, sym, ap, ap₂, subst, ◌∙◌, append_assoc}
-use Rattle.std.specs.Prelude.{◌==◌, nat_le, nat_lt}
-use Rattle.std.specs.Int.{w32, w64}
-use Rattle.std.proofs.lemmas.Bool.{lt-ltb, ltb-true, leb-true, le-leb}
-use Rattle.std.proofs.lemmas.Option.{same_Some, cond_some, option_and_then_some}
-use Rattle.plain_texts.specs.Names.{is_name}
-use Rattle.plan_base.specs.Modes.{number_of_mode}
-use Rattle.plan_base.specs.declared.places.Place.{Place}
-use Rattle.timetable_arcs.specs.declared.trips.Call.{Call}
-use Rattle.timetable_arcs.specs.Trips.{TripLists}
-use Rattle.search_laws.specs.Letters.{IsLetter, letter_count}
-use Rattle.mode_network.specs.declared.nodes.Arc.{Arc}
-use Rattle.mode_network.specs.declared.nodes.Node.{Node}
-use Rattle.mode_network.specs.declared.nodes.NodeKey.{NodeKey}
-use Rattle.mode_network.specs.declared.nodes.NodeKey.TheVariants.{Road, Stop, Switch}
-use Rattle.mode_network.specs.Rules.{IsRoad, IsSwitch}
+use Rattle.plan_base.proofs.Common.{◌≡◌, ℕ, ◌%◌, ◌≤◌, true, cond, List, [], ◌∷◌, ◌++◌, Some, None, refl, sym, ap, ap₂, subst, ◌∙◌, append_assoc, ◌==◌, nat_le, nat_lt, w32, w64, lt-ltb, ltb-true, leb-true, le-leb, same_Some, cond_some, option_and_then_some}
+use Rattle.plain_texts.specs.{is_name}
+use Rattle.plan_base.specs.{number_of_mode, Place}
+use Rattle.timetable_arcs.specs.{Call, TripLists}
+use Rattle.search_laws.specs.{IsLetter, letter_count}
+use Rattle.mode_network.specs.{Arc, Node, NodeKey, Road, Stop, Switch, IsRoad, IsSwitch}
 use Rattle.region_file.specs.declared.lines.Line.TheVariants as line
-use Rattle.region_file.specs.Bytes.{arc_bytes, call_bytes, counted_bytes, place_bytes, record_bytes, set_bytes, trip_bytes, word_bytes}
-use Rattle.region_file.specs.Fronts.{arc_front, byte_front, call_front, id_front, letter_front, mode_front, name_front, place_front, road_front, set_front, stop_front, switch_front, trip_front}
-use Rattle.region_file.specs.Lines.{FitsArc, FitsCall, FitsTrip, flags_of, key_line, node_line}
-use Rattle.file_records.specs.Numbers.{number_front, signed_bytes}
-use Rattle.file_records.proofs.Steps.{and_then}
-use Rattle.file_records.proofs.NumberLaws.{IsBytes, Takes, Takes-then}
-use Rattle.region_file.proofs.FrontLaws.{byte_again, byte_takes, id_again, id_takes, mode_again, mode_takes, name_again, name_takes, place_is_read, place_takes, set_again, set_takes, word_again, word_takes}
-use Rattle.region_file.proofs.KindLaws.{flags_again, flags_read}
+use Rattle.region_file.specs.{arc_bytes, call_bytes, counted_bytes, place_bytes, record_bytes, set_bytes, trip_bytes, word_bytes, arc_front, byte_front, call_front, id_front, letter_front, mode_front, name_front, place_front, road_front, set_front, stop_front, switch_front, trip_front, FitsArc, FitsCall, FitsTrip, flags_of, key_line, node_line}
+use Rattle.file_records.specs.{number_front, signed_bytes}
+use Rattle.file_records.proofs.{Steps.and_then, NumberLaws.IsBytes, NumberLaws.Takes, NumberLaws.Takes-then}
+use Rattle.region_file.proofs.{FrontLaws.byte_again, FrontLaws.byte_takes, FrontLaws.id_again, FrontLaws.id_takes, FrontLaws.mode_again, FrontLaws.mode_takes, FrontLaws.name_again, FrontLaws.name_takes, FrontLaws.place_is_read, FrontLaws.place_takes, FrontLaws.set_again, FrontLaws.set_takes, FrontLaws.word_again, FrontLaws.word_takes, KindLaws.flags_again, KindLaws.flags_read}
 
 -- ---- nodes
 

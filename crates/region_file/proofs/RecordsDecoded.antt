@@ -1,25 +1,11 @@
 -- What bytes spell as records: the laws of the whole.
-use Rattle.std.proofs.Common.{◌≡◌, ℕ, ◌+◌, ◌-◌, Bool, true, false, cond, eqb, List, [], ◌++◌, length, Some, None, Result, Ok, Err, refl, sym, ap, ap₂, subst, ◌∙◌, append_assoc, append-nil, length-append, arith, inr}
-use Rattle.std.specs.Prelude.{Option}
-use Rattle.std.specs.List.{flat_map}
-use Rattle.std.proofs.lemmas.Bool.{eqb-true, eqb-false}
-use Rattle.std.proofs.lemmas.List.{nil_from_length}
-use Rattle.std.proofs.lemmas.Option.{none-some}
-use Rattle.plan_base.specs.declared.limits.Caps.{Caps}
+use Rattle.plan_base.proofs.Common.{◌≡◌, ℕ, ◌+◌, ◌-◌, Bool, true, false, cond, eqb, List, [], ◌++◌, length, Some, None, Result, Ok, Err, refl, sym, ap, ap₂, subst, ◌∙◌, append_assoc, append-nil, length-append, arith, inr, Option, flat_map, eqb-true, eqb-false, nil_from_length, none-some}
+use Rattle.plan_base.specs.{Caps}
 use Rattle.service_days.specs.DaysMeaning.{DaysMeaning}
 use Rattle.mode_network.specs.NetworkLists.{NetworkLists}
-use Rattle.region_file.specs.declared.counts.Counts.{Counts}
-use Rattle.region_file.specs.declared.fault.RegionFault.{RegionFault}
-use Rattle.region_file.specs.declared.fault.RegionFault.TheVariants.{BadHead, BadRecord, Trailing}
-use Rattle.region_file.specs.Bytes.{FitCounts, counts_of, head_bytes, magic_of, record_bytes, region_bytes}
-use Rattle.region_file.specs.Fronts.{head_front}
-use Rattle.region_file.specs.Lines.{IsRegion, region_lines}
-use Rattle.region_file.specs.Records.{lists_in, network_behind, network_records, whole_network}
-use Rattle.region_file.specs.Regions.{BeginsWith, HasCause, HasHeadLine, IsBadRecord, IsInBytes, behind_head}
-use Rattle.region_file.proofs.CauseLaws.{records_bad}
+use Rattle.region_file.specs.{Counts, RegionFault, BadHead, BadRecord, Trailing, FitCounts, counts_of, head_bytes, magic_of, record_bytes, region_bytes, head_front, IsRegion, region_lines, lists_in, network_behind, network_records, whole_network, BeginsWith, HasCause, HasHeadLine, IsBadRecord, IsInBytes, behind_head}
+use Rattle.region_file.proofs.{CauseLaws.records_bad, HeadLaws.head_again, HeadLaws.head_takes, WholeLaws.records_again, WholeLaws.records_take}
 use Rattle.file_records.proofs.NumberLaws.{IsBytes}
-use Rattle.region_file.proofs.HeadLaws.{head_again, head_takes}
-use Rattle.region_file.proofs.WholeLaws.{records_again, records_take}
 
 fault_is : (x y : RegionFault) → ◌≡◌ {A = Result NetworkLists RegionFault} (Err x) (Err y) → x ≡ y
 fault_is x y e = cc

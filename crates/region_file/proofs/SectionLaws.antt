@@ -1,17 +1,9 @@
 -- Reading a line where it stands.
-use Rattle.std.proofs.Common.{◌≡◌, ℕ, List, refl, ap, sym, ◌∙◌, subst, true, false, cond, arith}
-use Rattle.std.specs.Prelude.{Some, None, option_and_then, nat_eq, nat_le, nat_lt, ◌&&◌}
-use Rattle.std.proofs.lemmas.Bool.{false≢true}
-use Rattle.std.proofs.lemmas.Bool.Decides.{nat_tests}
-use Rattle.std.proofs.lemmas.Option.{cond_some, option_and_then_some}
+use Rattle.plan_base.proofs.Common.{◌≡◌, ℕ, List, refl, ap, sym, ◌∙◌, subst, true, false, cond, arith, Some, None, option_and_then, nat_eq, nat_le, nat_lt, ◌&&◌, false≢true, nat_tests, cond_some, option_and_then_some}
 use Rattle.plain_texts.proofs.Course.{ReadsLines}
 use Rattle.service_days.specs.DaysMeaning.{DaysMeaning}
-use Rattle.region_file.specs.declared.lines.Line.{Line}
+use Rattle.region_file.specs.{Line, Progress, line_of, FitsLine, spelled, behind, behind_days, is_due, is_end, line_at, may_stand, placed_line, progress_after, rank, section_of, start}
 use Rattle.region_file.specs.declared.lines.Line.TheVariants as line
-use Rattle.region_file.specs.declared.section.Progress.{Progress}
-use Rattle.region_file.specs.Kinds.{line_of}
-use Rattle.region_file.specs.Lines.{FitsLine, spelled}
-use Rattle.region_file.specs.Sections.{behind, behind_days, is_due, is_end, line_at, may_stand, placed_line, progress_after, rank, section_of, start}
 use Rattle.region_file.proofs.KindLaws.{line_takes, line_again}
 
 -- what was read here

@@ -1,33 +1,13 @@
 -- Where the reading of records stops, no record that may come next is spelled.
-use Rattle.std.proofs.Common.{◌≡◌, ℕ, zero, suc, ◌+◌, ◌-◌, ◌<◌, true, false, cond, List, [], ◌∷◌, ◌++◌, length, map, Some, None, refl, sym, ap, ◌∙◌, append_assoc, arith, inl, inr}
-use Rattle.std.specs.Prelude.{◌≢◌, Option, option_and_then, nat_eq, nat_lt}
-use Rattle.std.specs.List.{flat_map, AllByRecursion}
-use Rattle.std.proofs.lemmas.Bool.Decides.{nat_tests}
-use Rattle.std.proofs.lemmas.Grind.{flat_map-append}
-use Rattle.std.proofs.lemmas.List.{append-nil}
-use Rattle.std.proofs.lemmas.List.Concat.{flat_map-cons}
-use Rattle.plan_base.specs.declared.days.DaySet.{DaySet}
-use Rattle.plain_texts.specs.Course.{run_on}
-use Rattle.plan_base.specs.declared.places.Place.{Place}
-use Rattle.timetable_arcs.specs.declared.trips.Call.{Call}
-use Rattle.timetable_arcs.specs.Trips.{TripLists}
-use Rattle.mode_network.specs.declared.nodes.Arc.{Arc}
-use Rattle.mode_network.specs.declared.nodes.Node.{Node}
-use Rattle.mode_network.specs.declared.nodes.NodeKey.{NodeKey}
-use Rattle.mode_network.specs.declared.nodes.NodeKey.TheVariants.{Road, Stop, Switch}
-use Rattle.mode_network.specs.Rules.{IsRoad, IsSwitch}
-use Rattle.region_file.specs.declared.lines.Line.{Line}
+use Rattle.plan_base.proofs.Common.{◌≡◌, ℕ, zero, suc, ◌+◌, ◌-◌, ◌<◌, true, false, cond, List, [], ◌∷◌, ◌++◌, length, map, Some, None, refl, sym, ap, ◌∙◌, append_assoc, arith, inl, inr, ◌≢◌, Option, option_and_then, nat_eq, nat_lt, flat_map, AllByRecursion, nat_tests, flat_map-append, append-nil, flat_map-cons}
+use Rattle.plan_base.specs.{Place}
+use Rattle.plain_texts.specs.{run_on}
+use Rattle.timetable_arcs.specs.{Call, TripLists}
+use Rattle.mode_network.specs.{Arc, Node, NodeKey, Road, Stop, Switch, IsRoad, IsSwitch}
+use Rattle.region_file.specs.{Line, Section, arc_bytes, call_bytes, record_bytes, announce, next_behind, record_after, FitsArc, FitsCall, FitsLine, key_line, node_line, trip_lines, Due.Due, inside.trip_records}
 use Rattle.region_file.specs.declared.lines.Line.TheVariants as line
-use Rattle.region_file.specs.declared.section.Section.{Section}
 use Rattle.region_file.specs.declared.section.Section.TheVariants as section
-use Rattle.region_file.specs.Bytes.{arc_bytes, call_bytes, record_bytes}
-use Rattle.region_file.specs.Due.{Due, announce, next_behind, record_after}
-use Rattle.region_file.specs.Lines.{FitsArc, FitsCall, FitsLine, key_line, node_line, trip_lines}
-use Rattle.region_file.specs.inside.Texts.{trip_records}
-use Rattle.region_file.proofs.Fits.{both_fit, road_fits, switch_fits}
-use Rattle.region_file.proofs.ManyLaws.{CallsStop, FitsRow, OneStop, StopsAt, TripStop}
-use Rattle.region_file.proofs.RecordLaws.{FitsHead, IsNamed, IsRoadNode, IsSwitchNode, head_bytes_of, node_bytes, stop_bytes}
-use Rattle.region_file.proofs.WholeLaws.{mapped_bytes, mapped_fit, rows_are, rows_fit, stop_row_line}
+use Rattle.region_file.proofs.{Fits.both_fit, Fits.road_fits, Fits.switch_fits, ManyLaws.CallsStop, ManyLaws.FitsRow, ManyLaws.OneStop, ManyLaws.StopsAt, ManyLaws.TripStop, RecordLaws.FitsHead, RecordLaws.IsNamed, RecordLaws.IsRoadNode, RecordLaws.IsSwitchNode, RecordLaws.head_bytes_of, RecordLaws.node_bytes, RecordLaws.stop_bytes, WholeLaws.mapped_bytes, WholeLaws.mapped_fit, WholeLaws.rows_are, WholeLaws.rows_fit, WholeLaws.stop_row_line}
 
 -- nothing but these sections is due
 abbrev pub resting : List Section → Due
@@ -181,9 +161,6 @@ run_calls (call ∷ calls) others k count e =
     ap (λ n. run_on record_after (record_after (due_calls n others) (line.Call call)) (map line.Call calls)) one
     ∙ ap (λ o. run_on record_after o (map line.Call calls)) (call_stands (length calls + k) others call)
     ∙ run_calls calls others k (length calls + k) refl
-
-trip_stands : (letter : ℕ) (days : DaySet) (calls : ℕ) (name : List ℕ) (others : List Section) → record_after (resting (section.Trips ∷ others)) (line.Trip letter days calls name) ≡ Some (due_calls calls others)
-trip_stands letter days calls name others = refl
 
 pub run_trips : (trips : List TripLists) (others : List Section) → run_on record_after (Some (resting (announce (length trips) section.Trips others))) (flat_map trip_lines trips) ≡ Some (resting others)
 run_trips [] others = refl

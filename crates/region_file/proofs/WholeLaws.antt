@@ -1,34 +1,14 @@
 -- The records of a network: what is read keeps the rules of parts and is spelled so, and what is spelled so is read.
-use Rattle.std.proofs.Common.{◌≡◌, ℕ, zero, suc, ◌+◌, ◌<◌, List, [], ◌∷◌, ◌++◌, length, map, get_or, Ok, Err, refl, sym, ap, ap₂, subst, ◌∙◌, append_assoc, append-nil, arith, add-zero, zero-add}
-use Rattle.std.specs.Prelude.{zip}
-use Rattle.std.specs.List.{flat_map, AllByRecursion}
-use Rattle.std.proofs.lemmas.Grind.{flat_map-append}
-use Rattle.std.proofs.lemmas.List.Concat.{flat_map-cons}
-use Rattle.std.proofs.lemmas.List.Elements.{All-from_recursion, recursion_from_All, All-weaker}
-use Rattle.std.proofs.lemmas.List.Folds.{flat_map-map}
-use Rattle.plan_base.specs.declared.places.Place.{Place}
+use Rattle.plan_base.proofs.Common.{◌≡◌, ℕ, zero, suc, ◌+◌, ◌<◌, List, [], ◌∷◌, ◌++◌, length, map, get_or, Ok, Err, refl, sym, ap, ap₂, subst, ◌∙◌, append_assoc, append-nil, arith, add-zero, zero-add, zip, flat_map, AllByRecursion, flat_map-append, flat_map-cons, All-from_recursion, recursion_from_All, All-weaker, flat_map-map}
+use Rattle.plan_base.specs.{Place}
 use Rattle.service_days.specs.DaysMeaning.{DaysMeaning}
-use Rattle.timetable_arcs.specs.Trips.{TripLists}
-use Rattle.mode_network.specs.declared.nodes.Arc.{Arc}
-use Rattle.mode_network.specs.declared.nodes.Node.{Node}
-use Rattle.mode_network.specs.declared.nodes.NodeKey.{NodeKey}
-use Rattle.mode_network.specs.declared.nodes.NodeKey.TheVariants.{Road, Stop, Switch}
-use Rattle.mode_network.specs.NetworkLists.{NetworkLists}
-use Rattle.mode_network.specs.Rules.{IsStop}
-use Rattle.region_file.specs.declared.counts.Counts.{Counts}
-use Rattle.region_file.specs.declared.lines.Line.{Line}
+use Rattle.timetable_arcs.specs.{TripLists}
+use Rattle.mode_network.specs.{Arc, Node, NodeKey, Road, Stop, Switch, IsStop, NetworkLists.NetworkLists}
+use Rattle.region_file.specs.{Counts, Line, arc_bytes, counts_of, record_bytes, arc_front, road_front, stop_front, switch_front, FitsArc, FitsCall, FitsDays, FitsLine, IsRegion, node_line, region_lines, stop_line, trip_lines, many, network_records, stop_nodes, stops_read, trip_read, inside.trip_records}
 use Rattle.region_file.specs.declared.lines.Line.TheVariants as line
-use Rattle.region_file.specs.Bytes.{arc_bytes, counts_of, record_bytes}
-use Rattle.region_file.specs.Fronts.{arc_front, road_front, stop_front, switch_front}
-use Rattle.region_file.specs.Lines.{FitsArc, FitsCall, FitsDays, FitsLine, IsRegion, node_line, region_lines, stop_line, trip_lines}
-use Rattle.region_file.specs.inside.Texts.{trip_records}
-use Rattle.region_file.specs.Records.{many, network_records, stop_nodes, stops_read, trip_read}
-use Rattle.region_file.proofs.Fits.{both_fit, road_fits, switch_fits}
-use Rattle.file_records.specs.Reading.{one}
-use Rattle.file_records.proofs.Steps.{bind_is, bind_ok, ok_is}
-use Rattle.file_records.proofs.NumberLaws.{IsBytes, Takes, Takes-then}
-use Rattle.region_file.proofs.ManyLaws.{FitsRow, OneStop, StopsAt, TripStop, many_again, many_stops, many_takes, one_again, one_stops, one_takes, row_again, row_stops, row_takes}
-use Rattle.region_file.proofs.RecordLaws.{IsNamed, IsRoadNode, IsSwitchNode, arc_again, arc_takes, node_bytes, road_again, road_takes, stop_again, stop_bytes, stop_takes, switch_again, switch_takes}
+use Rattle.region_file.proofs.{Fits.both_fit, Fits.road_fits, Fits.switch_fits, ManyLaws.FitsRow, ManyLaws.OneStop, ManyLaws.StopsAt, ManyLaws.TripStop, ManyLaws.many_again, ManyLaws.many_stops, ManyLaws.many_takes, ManyLaws.one_again, ManyLaws.one_stops, ManyLaws.one_takes, ManyLaws.row_again, ManyLaws.row_stops, ManyLaws.row_takes, RecordLaws.IsNamed, RecordLaws.IsRoadNode, RecordLaws.IsSwitchNode, RecordLaws.arc_again, RecordLaws.arc_takes, RecordLaws.node_bytes, RecordLaws.road_again, RecordLaws.road_takes, RecordLaws.stop_again, RecordLaws.stop_bytes, RecordLaws.stop_takes, RecordLaws.switch_again, RecordLaws.switch_takes}
+use Rattle.file_records.specs.{one}
+use Rattle.file_records.proofs.{Steps.bind_is, Steps.bind_ok, Steps.ok_is, NumberLaws.IsBytes, NumberLaws.Takes, NumberLaws.Takes-then}
 
 -- ---- each section by itself
 

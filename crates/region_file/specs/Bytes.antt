@@ -1,19 +1,14 @@
 -- The spelling of a region in bytes, which is format 2: a head, and a record for each line of the region behind that of its
 -- days. All numbers are big-endian, and a signed number is its two's complement.
-use Rattle.std.specs.Prelude.{ℕ, ◌/◌, ◌%◌, ◌<◌, ◌^◌, List, [], ◌∷◌, ◌++◌, length, codes, Option, Some, None}
+use Rattle.std.specs.Prelude.{ℕ, ◌/◌, ◌%◌, ◌<◌, ◌^◌, List, [], ◌∷◌, ◌++◌, length, codes, Option, Some, None, flat_map}
 use Rattle.std.specs.Int.{w32, w64, to_be_bytes}
-use Rattle.std.specs.List.{flat_map}
-use Rattle.file_records.specs.Numbers.{signed_bytes}
-use Rattle.plan_base.specs.declared.days.DaySet.{DaySet}
-use Rattle.plan_base.specs.Modes.{number_of_mode}
-use Rattle.plan_base.specs.declared.places.Place.{Place}
+use Rattle.file_records.specs.{signed_bytes}
+use Rattle.plan_base.specs.{DaySet, number_of_mode, Place}
 use Rattle.service_days.specs.DaysMeaning.{DaysMeaning}
-use Rattle.timetable_arcs.specs.declared.trips.Call.{Call}
-use Rattle.mode_network.specs.declared.nodes.Arc.{Arc}
-use Rattle.mode_network.specs.NetworkLists.{NetworkLists}
-use Rattle.region_file.specs.Lines.{flags_of, region_lines}
-use Rattle.region_file.specs.declared.counts.Counts.{Counts}
-use Rattle.region_file.specs.declared.lines.Line.{Line}
+use Rattle.timetable_arcs.specs.{Call}
+use Rattle.mode_network.specs.{Arc, NetworkLists.NetworkLists}
+use Rattle.region_file.specs.{Lines.flags_of, Lines.region_lines, declared.lines.Line.Line}
+pub use Rattle.region_file.specs.declared.counts.Counts.{Counts}
 use Rattle.region_file.specs.declared.lines.Line.TheVariants as line
 
 -- a number of four bytes

@@ -1,11 +1,8 @@
 -- Which record may stand where in a region in bytes: as many of each kind as the head counts, in the order of the sections, and
 -- behind each trip its calls.
 use Rattle.std.specs.Prelude.{ℕ, zero, suc, ◌-◌, List, [], ◌∷◌, Option, Some, None, nat_eq, nat_lt, if◌then◌else◌}
-use Rattle.region_file.specs.Sections.{calls_due_behind, rank, section_of}
-use Rattle.region_file.specs.declared.counts.Counts.{Counts}
-use Rattle.region_file.specs.declared.lines.Line.{Line}
+use Rattle.region_file.specs.{Sections.calls_due_behind, Sections.rank, Sections.section_of, declared.counts.Counts.Counts, declared.lines.Line.Line, declared.section.Section.Section}
 use Rattle.region_file.specs.declared.lines.Line.TheVariants as line
-use Rattle.region_file.specs.declared.section.Section.{Section}
 use Rattle.region_file.specs.declared.section.Section.TheVariants as section
 
 -- what is still to come: how many calls of the last trip, and then a record of each of these sections

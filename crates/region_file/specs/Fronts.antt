@@ -1,25 +1,15 @@
 -- What stands at the front of bytes: a number, a name, a place, a record. Each is given with the bytes behind it, and there is none
 -- where the bytes are cut short or say something out of range.
-use Rattle.std.specs.Prelude.{ℕ, ◌+◌, ◌*◌, ◌%◌, ◌^◌, ◌==◌, nat_le, nat_lt, ℤ, unsigned_abs, Bool, true, false, List, [], ◌∷◌, length, take, drop, Option, Some, None, option_map, if◌then◌else◌}
+use Rattle.std.specs.Prelude.{ℕ, ◌+◌, ◌*◌, ◌%◌, ◌^◌, ◌==◌, nat_le, nat_lt, ℤ, unsigned_abs, Bool, true, false, List, [], ◌∷◌, length, take, drop, Option, Some, None, option_map, if◌then◌else◌, bytes_eq}
 use Rattle.std.specs.Int.{w32, w64}
-use Rattle.std.specs.Str.{bytes_eq}
-use Rattle.file_records.specs.Numbers.{number_front, signed_front}
-use Rattle.plain_texts.specs.Names.{is_name}
-use Rattle.plan_base.specs.Modes.{mode_numbered}
-use Rattle.plan_base.specs.declared.modes.Mode.{Mode}
-use Rattle.plan_base.specs.declared.places.Place.{Place}
-use Rattle.plan_base.specs.PlaceOf.{place_of}
-use Rattle.service_days.specs.DaysMeaning.{DaysMeaning}
-use Rattle.service_days.specs.Zones.{days_made}
-use Rattle.timetable_arcs.specs.declared.trips.Call.{Call}
-use Rattle.timetable_arcs.specs.Trips.{TripLists}
-use Rattle.search_laws.specs.Letters.{letter_count}
-use Rattle.mode_network.specs.declared.nodes.Arc.{Arc}
-use Rattle.mode_network.specs.declared.nodes.Node.{Node}
-use Rattle.mode_network.specs.declared.nodes.NodeKey.TheVariants.{Road, Switch}
-use Rattle.region_file.specs.Bytes.{plain_magic, zoned_magic}
-use Rattle.region_file.specs.Kinds.{◌>>=◌, days_if_made}
-use Rattle.region_file.specs.declared.counts.Counts.{Counts}
+use Rattle.file_records.specs.{number_front, signed_front}
+use Rattle.plain_texts.specs.{is_name}
+use Rattle.plan_base.specs.{mode_numbered, Mode, Place, place_of}
+use Rattle.service_days.specs.{DaysMeaning.DaysMeaning, days_made}
+use Rattle.timetable_arcs.specs.{Call, TripLists}
+use Rattle.search_laws.specs.{letter_count}
+use Rattle.mode_network.specs.{Arc, Node, Road, Switch}
+use Rattle.region_file.specs.{Bytes.plain_magic, Bytes.zoned_magic, Kinds.days_if_made, Kinds.◌>>=◌, declared.counts.Counts.Counts}
 
 -- one byte below a limit
 abbrev pub byte_front : ℕ → List ℕ → Option (ℕ × List ℕ)

@@ -1,20 +1,11 @@
 -- What a line says, read word by word.
-use Rattle.std.specs.Prelude.{ℕ, ◌^◌, ◌*◌, ◌%◌, ◌==◌, List, [], ◌∷◌, codes, Option, Some, None, option_and_then, option_map, Result, Ok, Err, nat_lt, nat_le, if◌then◌else◌}
-use Rattle.std.specs.Str.{bytes_eq}
-use Rattle.plain_texts.specs.Lines.{words_of}
-use Rattle.plain_texts.specs.Names.{name_of}
-use Rattle.plain_texts.specs.Hexadecimal.{hexadecimal_at}
-use Rattle.plain_texts.specs.Numbers.{id_at, number_at, signed_at}
-use Rattle.plan_base.specs.Modes.{mode_named}
-use Rattle.plan_base.specs.declared.places.Place.{Place}
-use Rattle.plan_base.specs.PlaceOf.{place_of}
-use Rattle.service_days.specs.DaysMeaning.{DaysMeaning}
-use Rattle.service_days.specs.Zones.{days_made}
-use Rattle.service_days.specs.declared.range.RangeFault.{RangeFault}
-use Rattle.mode_network.specs.declared.nodes.Arc.{Arc}
-use Rattle.timetable_arcs.specs.declared.trips.Call.{Call}
-use Rattle.region_file.specs.Letters.{letter_at}
-use Rattle.region_file.specs.declared.lines.Line.{Line}
+use Rattle.std.specs.Prelude.{ℕ, ◌^◌, ◌*◌, ◌%◌, ◌==◌, List, [], ◌∷◌, codes, Option, Some, None, option_and_then, option_map, Result, Ok, Err, nat_lt, nat_le, if◌then◌else◌, bytes_eq}
+use Rattle.plain_texts.specs.{words_of, name_of, hexadecimal_at, id_at, number_at, signed_at}
+use Rattle.plan_base.specs.{mode_named, Place, place_of}
+use Rattle.service_days.specs.{DaysMeaning.DaysMeaning, days_made, RangeFault}
+use Rattle.mode_network.specs.{Arc}
+use Rattle.timetable_arcs.specs.{Call}
+use Rattle.region_file.specs.{Letters.letter_at, declared.lines.Line.Line}
 use Rattle.region_file.specs.declared.lines.Line.TheVariants as line
 
 infixl 10 ◌>>=◌

@@ -1,7 +1,6 @@
 -- The letters of trips: the means of transport that run by a timetable, numbers 3 to 13, by number and name.
-use Rattle.std.specs.Prelude.{ℕ, ◌+◌, ◌-◌, List, [], Option, position, option_map, slice_index_or}
-use Rattle.std.specs.Str.{bytes_eq}
-use Rattle.plan_base.specs.LetterNames.{transit_names}
+use Rattle.std.specs.Prelude.{ℕ, ◌+◌, ◌-◌, List, [], Option, position, option_map, slice_index_or, bytes_eq}
+use Rattle.plan_base.specs.{transit_names}
 
 -- the name of a letter
 abbrev pub letter_name : ℕ → List ℕ

@@ -1,29 +1,15 @@
 -- The spelling of a region: its lines in words.
-use Rattle.std.specs.Prelude.{◌≡◌, ℕ, ◌+◌, ◌<◌, ◌≤◌, ◌^◌, List, [], ◌∷◌, ◌++◌, length, map, Option, Some, None, Ok, codes, decimal, true, if◌then◌else◌, slice_index_or, zip}
+use Rattle.std.specs.Prelude.{◌≡◌, ℕ, ◌+◌, ◌<◌, ◌≤◌, ◌^◌, List, [], ◌∷◌, ◌++◌, length, map, Option, Some, None, Ok, codes, decimal, true, if◌then◌else◌, slice_index_or, zip, flat_map}
 use Rattle.std.specs.Fmt.{signed_decimal}
-use Rattle.std.specs.List.{AllByRecursion, flat_map}
-use Rattle.plain_texts.specs.Lines.{lines_text, spaced}
-use Rattle.plain_texts.specs.Names.{is_name}
-use Rattle.plain_texts.specs.Hexadecimal.{IsHexadecimal, hexadecimal}
-use Rattle.plain_texts.specs.Numbers.{IsId}
-use Rattle.plan_base.specs.declared.days.DaySet.{DaySet}
-use Rattle.plan_base.specs.LetterNames.{letter_names}
-use Rattle.plan_base.specs.Modes.{number_of_mode}
-use Rattle.plan_base.specs.declared.modes.Mode.{Mode}
-use Rattle.plan_base.specs.declared.places.Place.{Place}
-use Rattle.service_days.specs.DaysMeaning.{DaysMeaning}
-use Rattle.service_days.specs.Zones.{days_made}
-use Rattle.timetable_arcs.specs.declared.trips.Call.{Call}
-use Rattle.timetable_arcs.specs.Trips.{TripLists}
-use Rattle.search_laws.specs.Letters.{IsLetter}
-use Rattle.mode_network.specs.declared.nodes.Arc.{Arc}
-use Rattle.mode_network.specs.declared.nodes.Node.{Node}
-use Rattle.mode_network.specs.declared.nodes.NodeKey.{NodeKey}
-use Rattle.mode_network.specs.declared.nodes.NodeKey.TheVariants.{Road, Stop, Switch}
-use Rattle.mode_network.specs.NetworkLists.{NetworkLists}
-use Rattle.mode_network.specs.Rules.{AreParts}
+use Rattle.std.specs.List.{AllByRecursion}
+use Rattle.plain_texts.specs.{lines_text, spaced, is_name, IsHexadecimal, hexadecimal, IsId}
+use Rattle.plan_base.specs.{DaySet, letter_names, number_of_mode, Mode, Place}
+use Rattle.service_days.specs.{DaysMeaning.DaysMeaning, days_made}
+use Rattle.timetable_arcs.specs.{Call, TripLists}
+use Rattle.search_laws.specs.{IsLetter}
+use Rattle.mode_network.specs.{Arc, Node, NodeKey, Road, Stop, Switch, AreParts, NetworkLists.NetworkLists}
 use Rattle.region_file.specs.Letters.{letter_name}
-use Rattle.region_file.specs.declared.lines.Line.{Line}
+pub use Rattle.region_file.specs.declared.lines.Line.{Line}
 use Rattle.region_file.specs.declared.lines.Line.TheVariants as line
 
 abbrev pub mode_name : Mode → List ℕ

@@ -1,16 +1,12 @@
 -- How a region in bytes is read: its head, and the records that it counts, one behind the other.
 use Rattle.std.specs.Prelude.{ℕ, zero, suc, ◌+◌, ◌-◌, ◌==◌, List, [], ◌∷◌, length, map, Option, Some, None, Result, Ok, Err, if◌then◌else◌}
-use Rattle.file_records.specs.Reading.{◌>>=◌, one, with_first}
-use Rattle.plan_base.specs.declared.places.Place.{Place}
+use Rattle.file_records.specs.{one, with_first, ◌>>=◌}
+use Rattle.plan_base.specs.{Place}
 use Rattle.service_days.specs.DaysMeaning.{DaysMeaning}
-use Rattle.timetable_arcs.specs.Trips.{TripLists}
-use Rattle.mode_network.specs.declared.nodes.Node.{Node}
-use Rattle.mode_network.specs.declared.nodes.NodeKey.TheVariants.{Stop}
-use Rattle.mode_network.specs.NetworkLists.{NetworkLists}
-use Rattle.region_file.specs.Fronts.{arc_front, call_front, head_front, road_front, stop_front, switch_front, trip_front}
-use Rattle.region_file.specs.declared.counts.Counts.{Counts}
-use Rattle.region_file.specs.declared.fault.RegionFault.{RegionFault}
-use Rattle.region_file.specs.declared.fault.RegionFault.TheVariants.{BadHead, BadRecord, Trailing}
+use Rattle.timetable_arcs.specs.{TripLists}
+use Rattle.mode_network.specs.{Node, Stop, NetworkLists.NetworkLists}
+use Rattle.region_file.specs.{Fronts.arc_front, Fronts.call_front, Fronts.head_front, Fronts.road_front, Fronts.stop_front, Fronts.switch_front, Fronts.trip_front, declared.counts.Counts.Counts}
+pub use Rattle.region_file.specs.{declared.fault.RegionFault.RegionFault, declared.fault.RegionFault.TheVariants.BadHead, declared.fault.RegionFault.TheVariants.BadRecord, declared.fault.RegionFault.TheVariants.Trailing}
 
 -- so many records
 unfoldable pub many : {X : Type 0} → (List ℕ → Result (X × List ℕ) ℕ) → ℕ → List ℕ → Result (List X × List ℕ) ℕ

@@ -1,30 +1,15 @@
 -- What the lines of a region text make, what the bytes of a region spell in either format, and what is wrong with bytes that are
 -- no region.
-use Rattle.std.specs.Prelude.{◌≡◌, ◌≢◌, ℕ, ◌+◌, ◌<◌, ◌⊎◌, List, [], ◌∷◌, ◌++◌, length, take, drop, Option, Some, None, Result, Ok, Err, fold, if◌then◌else◌}
-use Rattle.std.specs.Str.{bytes_eq}
-use Rattle.plain_texts.specs.Lines.{pieces}
-use Rattle.std.specs.List.{AllByRecursion, flat_map}
-use Rattle.plain_texts.specs.Course.{Course, whole, bad, trailing, lines_from, run_on, IsFirstBad, IsTrailing}
-use Rattle.plan_base.specs.declared.limits.Caps.{Caps}
-use Rattle.mode_network.specs.declared.nodes.NodeKey.TheVariants.{Road, Stop, Switch}
-use Rattle.mode_network.specs.declared.faults.NetFault.{NetFault}
-use Rattle.mode_network.specs.NetworkLists.{NetworkLists}
-use Rattle.timetable_arcs.specs.declared.trips.Call.{Call}
-use Rattle.timetable_arcs.specs.Trips.{TripLists}
+use Rattle.std.specs.Prelude.{◌≡◌, ◌≢◌, ℕ, ◌+◌, ◌<◌, ◌⊎◌, List, [], ◌∷◌, ◌++◌, length, take, drop, Option, Some, None, Result, Ok, Err, fold, if◌then◌else◌, bytes_eq, flat_map}
+use Rattle.plain_texts.specs.{pieces, whole, bad, trailing, lines_from, run_on, IsFirstBad, IsTrailing, Course.Course}
+use Rattle.std.specs.List.{AllByRecursion}
+use Rattle.plan_base.specs.{Caps}
+use Rattle.mode_network.specs.{Road, Stop, Switch, NetFault, first_fault, NetworkLists.NetworkLists}
+use Rattle.timetable_arcs.specs.{Call, TripLists}
 use Rattle.service_days.specs.DaysMeaning.{DaysMeaning}
-use Rattle.mode_network.specs.Rules.{first_fault}
-use Rattle.region_file.specs.Bytes.{FitCounts, counts_of, head_bytes, record_bytes, region_bytes}
-use Rattle.region_file.specs.Due.{Due, due_of, record_after}
-use Rattle.region_file.specs.Records.{lists_in}
-use Rattle.region_file.specs.declared.counts.Counts.{Counts}
-use Rattle.region_file.specs.declared.fault.RegionFault.{RegionFault}
-use Rattle.region_file.specs.declared.fault.RegionFault.TheVariants.{BadHead, BadRecord, Network, Trailing, OutOfMemory}
-use Rattle.region_file.specs.declared.format.Format.{Format}
-use Rattle.region_file.specs.declared.format.Format.TheVariants.{Text, Binary}
-use Rattle.region_file.specs.declared.lines.Line.{Line}
+use Rattle.region_file.specs.{Bytes.FitCounts, Bytes.counts_of, Bytes.head_bytes, Bytes.record_bytes, Bytes.region_bytes, Due.Due, Due.due_of, Due.record_after, Records.lists_in, declared.counts.Counts.Counts, declared.fault.RegionFault.RegionFault, declared.fault.RegionFault.TheVariants.BadHead, declared.fault.RegionFault.TheVariants.BadRecord, declared.fault.RegionFault.TheVariants.Trailing, declared.lines.Line.Line, Lines.FitsDays, Lines.FitsLine, Lines.IsRegion, Lines.head_line, Lines.region_text, Lines.spelled, Sections.is_end, Sections.line_at, Sections.progress_after, Sections.start}
+pub use Rattle.region_file.specs.{declared.fault.RegionFault.TheVariants.Network, declared.fault.RegionFault.TheVariants.OutOfMemory, declared.format.Format.Format, declared.format.Format.TheVariants.Text, declared.format.Format.TheVariants.Binary}
 use Rattle.region_file.specs.declared.lines.Line.TheVariants as line
-use Rattle.region_file.specs.Lines.{FitsDays, FitsLine, IsRegion, head_line, region_text, spelled}
-use Rattle.region_file.specs.Sections.{is_end, line_at, progress_after, start}
 
 -- no line yet
 abbrev pub nothing : NetworkLists

@@ -1,11 +1,9 @@
 -- Where a line may stand: one line of days first, then the sections in their order, and behind each trip its calls.
 use Rattle.std.specs.Prelude.{ℕ, ◌-◌, List, Bool, Option, Some, None, option_and_then, nat_lt, nat_le, nat_eq, ◌&&◌, if◌then◌else◌}
-use Rattle.region_file.specs.declared.lines.Line.{Line}
+use Rattle.region_file.specs.{declared.lines.Line.Line, Kinds.line_of}
 use Rattle.region_file.specs.declared.lines.Line.TheVariants as line
-use Rattle.region_file.specs.declared.section.Progress.{Progress}
-use Rattle.region_file.specs.declared.section.Section.{Section}
+pub use Rattle.region_file.specs.{declared.section.Progress.Progress, declared.section.Section.Section}
 use Rattle.region_file.specs.declared.section.Section.TheVariants as section
-use Rattle.region_file.specs.Kinds.{line_of}
 
 abbrev pub rank : Section → ℕ
 rank section.Start = 0

@@ -1,7 +1,6 @@
 //! What stands at the front of bytes, and the bytes behind it.
 
 ghost use Rattle.std.specs.Prelude.{◌≡◌, option_map, IfOk};
-ghost use Rattle.service_days.specs.Zones.{days_made};
 ghost use Rattle.plan_base.specs.Modes.{mode_numbered};
 ghost use Rattle.region_file.specs.Fronts as spec;
 

@@ -1,6 +1,6 @@
 //! What a line says, by its words.
 
-ghost use Rattle.std.specs.Prelude.{◌≡◌, ◌^◌, ◌<◌, map, option_map, IfOk, IfSome};
+ghost use Rattle.std.specs.Prelude.{◌≡◌, ◌^◌, ◌<◌, map, option_map, IfOk};
 ghost use Rattle.region_file.specs.Kinds as spec;
 ghost use Rattle.region_file.specs.declared.lines.Line.TheVariants as line;
 ghost use Rattle.service_days.specs.Zones.{days_made};

@@ -1,8 +1,7 @@
 -- A run whose files are there and without fault ends with its work done.
 use Rattle.hierarchy_commands.proofs.CompleteLemmas.{named_completes}
-use Rattle.run_steps.proofs.CompleteSteps.{file_completes, network_completes}
-use Rattle.run_steps.proofs.TurnComplete.{answers_completes}
-use Rattle.request_commands.specs.Complete.{RequestsCompletes}
+use Rattle.run_steps.proofs.{CompleteSteps.file_completes, CompleteSteps.network_completes, TurnComplete.answers_completes}
+use Rattle.request_commands.specs.{RequestsCompletes}
 
 pub requests_completes : RequestsCompletes
 requests_completes caps limits files region file hierarchy =

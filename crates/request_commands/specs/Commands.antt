@@ -1,12 +1,8 @@
 -- What the command says of a run by its outcome.
 use Rattle.std.specs.Prelude.{ℕ, List, Option}
-use Rattle.plan_base.specs.declared.limits.Caps.{Caps}
-use Rattle.hierarchy_commands.specs.Commands.{OnHierarchyIfNamed}
-use Rattle.run_steps.specs.declared.outcome.FileRole.TheVariants.{Requests}
-use Rattle.run_steps.specs.declared.limits.Limits.{Limits}
-use Rattle.run_steps.specs.InTurn.{AnswersFile}
-use Rattle.run_steps.specs.Regions.{OnRegion}
-use Rattle.run_steps.specs.Sayings.{Saying}
+use Rattle.plan_base.specs.{Caps}
+use Rattle.hierarchy_commands.specs.{OnHierarchyIfNamed}
+use Rattle.run_steps.specs.{declared.outcome.FileRole.TheVariants.Requests, declared.limits.Limits.Limits, AnswersFile, OnRegion, Saying}
 use Rattle.request_commands.specs.Requests.{IsReply}
 
 -- `requests` writes the right reply within the limits to each line of a file, in order and as it is read

@@ -1,9 +1,8 @@
 -- What can be done: the files that the command names are there and without fault.
 use Rattle.std.specs.Prelude.{ℕ, List, Option}
-use Rattle.plan_base.specs.declared.limits.Caps.{Caps}
-use Rattle.hierarchy_commands.specs.Complete.{IsSoundIfNamed}
-use Rattle.run_steps.specs.declared.limits.Limits.{Limits}
-use Rattle.run_steps.specs.Complete.{Files, AreLinesHeld, IsRegionHeld, Completes}
+use Rattle.plan_base.specs.{Caps}
+use Rattle.hierarchy_commands.specs.{IsSoundIfNamed}
+use Rattle.run_steps.specs.{declared.limits.Limits.Limits, Files, AreLinesHeld, IsRegionHeld, Completes}
 use Rattle.request_commands.specs.Commands.{SaysRequests}
 
 abbrev pub CanRequests : Caps → Files → List ℕ → List ℕ → Option (List ℕ) → Type 0

@@ -1,21 +1,18 @@
 -- What a line asks for, and the replies that are right for it.
 use Rattle.std.specs.Prelude.{◌≡◌, ℕ, List, codes, bytes_eq, Option, Some, None, option_and_then, option_map, if◌then◌else◌}
-use Rattle.plain_texts.specs.Lines.{with_feed}
+use Rattle.plain_texts.specs.{with_feed}
 use Rattle.mode_network.specs.NetworkLists.{NetworkLists}
-use Rattle.hierarchy.specs.Lists.{HierarchyLists}
-use Rattle.journey.specs.Shapes.{at_space}
-use Rattle.journey.specs.Texts.{block_text}
-use Rattle.journey.specs.Large.{IsBlockUnder}
-use Rattle.few_boardings.specs.Blocks.{IsFewBlock}
-use Rattle.departures.specs.Blocks.{IsProfileBlock}
-use Rattle.planning.specs.Limits.{IsBlockWithin}
-use Rattle.latest_departure.specs.Limits.{IsLateBlockWithin}
-use Rattle.answer_commands.specs.Outputs.{IsCertifiedWithin}
-use Rattle.late_commands.specs.Outputs.{IsLateCertifiedWithin}
+use Rattle.hierarchy.specs.{HierarchyLists}
+use Rattle.journey.specs.{at_space, block_text, IsBlockUnder}
+use Rattle.few_boardings.specs.{IsFewBlock}
+use Rattle.departures.specs.{IsProfileBlock}
+use Rattle.planning.specs.{IsBlockWithin}
+use Rattle.latest_departure.specs.{IsLateBlockWithin}
+use Rattle.answer_commands.specs.{IsCertifiedWithin}
+use Rattle.late_commands.specs.{IsLateCertifiedWithin}
 use Rattle.run_steps.specs.declared.limits.Limits.{Limits}
-use Rattle.command_words.specs.Requests.{window_of}
-use Rattle.request_commands.specs.declared.asked.LineCommand.{LineCommand}
-use Rattle.request_commands.specs.declared.asked.LineCommand.TheVariants.{Answer, Few, Latest, Profile, Certify, CertifyLatest}
+use Rattle.command_words.specs.{window_of}
+pub use Rattle.request_commands.specs.{declared.asked.LineCommand.LineCommand, declared.asked.LineCommand.TheVariants.Answer, declared.asked.LineCommand.TheVariants.Few, declared.asked.LineCommand.TheVariants.Latest, declared.asked.LineCommand.TheVariants.Profile, declared.asked.LineCommand.TheVariants.Certify, declared.asked.LineCommand.TheVariants.CertifyLatest}
 
 -- the command of this name, of those that have nothing before their query line
 unfoldable pub command_named : List ℕ → Option LineCommand

@@ -1,11 +1,6 @@
 -- Cars move on each class of ways that they may use.
-use Rattle.std.proofs.Common.{◌≡◌, ℕ, ◌≤◌, List, [], ◌∷◌, Bool, true, false, Option, Some, None, IfSome, if◌then◌else◌, nat_le, refl, arith}
-use Rattle.std.specs.Prelude.{bytes_eq}
-use Rattle.std.specs.List.{list_all}
-use Rattle.std.specs.Map.{lookup}
-use Rattle.std.proofs.lemmas.Bool.{leb-true}
-use Rattle.road_profile.specs.declared.classes.Class.{Class}
-use Rattle.road_profile.specs.Classes.{class_named, classes}
+use Rattle.plan_base.proofs.Common.{◌≡◌, ℕ, ◌≤◌, List, [], ◌∷◌, Bool, true, false, Option, Some, None, IfSome, if◌then◌else◌, nat_le, refl, arith, bytes_eq, list_all, lookup, leb-true}
+use Rattle.road_profile.specs.{Class, class_named, classes}
 
 abbrev moves : Option ℕ → Bool
 moves None = true

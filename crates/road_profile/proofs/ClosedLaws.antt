@@ -1,12 +1,8 @@
 -- A way that no mode may use has no legs.
-use Rattle.std.proofs.Common.{◌≡◌, ℤ, List, [], ◌∷◌, Bool, true, false, Option, Some, None, if◌then◌else◌, refl}
-use Rattle.std.specs.List.{flat_map}
-use Rattle.std.specs.Ordering.{int_eq}
-use Rattle.plan_base.specs.declared.places.Place.{Place}
-use Rattle.opl_reader.specs.declared.objects.OsmWay.{OsmWay}
-use Rattle.road_profile.specs.declared.rows.RoadRow.{RoadRow}
-use Rattle.road_profile.specs.Passages.{closed, passages_of}
-use Rattle.road_profile.specs.Legs.{mode_legs, pair_legs, piece_legs, placed_legs, step_legs, way_legs, neighbours}
+use Rattle.plan_base.proofs.Common.{◌≡◌, ℤ, List, [], ◌∷◌, Bool, true, false, Option, Some, None, if◌then◌else◌, refl, flat_map, int_eq}
+use Rattle.plan_base.specs.{Place}
+use Rattle.opl_reader.specs.{OsmWay}
+use Rattle.road_profile.specs.{RoadRow, closed, passages_of, mode_legs, pair_legs, piece_legs, placed_legs, step_legs, way_legs, neighbours}
 
 flat_map-nothing : {X Y : Type 0} (f : X → List Y) → ((x : X) → f x ≡ []) → (xs : List X) → flat_map f xs ≡ []
 flat_map-nothing f none [] = refl

@@ -1,27 +1,9 @@
 -- Each leg joins two nodes that have places.
-use Rattle.std.proofs.Common.{◌≡◌, ℕ, ℤ, List, [], ◌∷◌, Bool, true, false, Option, Some, None, if◌then◌else◌, refl, sym, ap, is_some, arith}
-use Rattle.std.specs.List.{All, Contains}
-use Rattle.std.specs.Prelude.{IfOk, Ok, Err, Result, Vec}
-use Rattle.std.specs.declared.alloc.Global.{Global}
-use Rattle.std.specs.Ordering.{int_eq}
-use Rattle.std.proofs.lemmas.List.Elements.{All-nil, All-cons, All-append, All-contains, All-contains_itself, All-weaker}
-use Rattle.std.proofs.lemmas.Bool.Decides.{Decides-int_eq}
-use Rattle.plan_base.specs.declared.modes.Mode.{Mode}
-use Rattle.plan_base.specs.declared.modes.Mode.TheVariants.{Foot, Bike, Car}
-use Rattle.plan_base.specs.declared.places.Place.{Place}
-use Rattle.geo_length.specs.Durations.{duration_of}
-use Rattle.geo_length.specs.Lengths.{length_between}
-use Rattle.opl_reader.specs.declared.objects.OsmNode.{OsmNode}
-use Rattle.opl_reader.specs.declared.objects.OsmWay.{OsmWay}
-use Rattle.opl_reader.specs.ObjectLists.{ObjectLists}
-use Rattle.road_profile.specs.declared.rules.Direction.{Direction}
-use Rattle.road_profile.specs.declared.rules.Direction.TheVariants.{Both, Forward, Backward}
-use Rattle.road_profile.specs.declared.passages.Passage.{Passage}
-use Rattle.road_profile.specs.declared.passages.Passages.{Passages}
-use Rattle.road_profile.specs.declared.rows.RoadRow.{RoadRow}
-use Rattle.road_profile.specs.Passages.{passages_of}
-use Rattle.road_profile.specs.Arcs.{AreRoadArcs, JoinsPlaces}
-use Rattle.road_profile.specs.Legs.{directed, legs_of, mode_legs, neighbours, pair_legs, piece_legs, place_of_node, placed_legs, row, step_legs, timed, way_legs}
+use Rattle.plan_base.proofs.Common.{◌≡◌, ℕ, ℤ, List, [], ◌∷◌, Bool, true, false, Option, Some, None, if◌then◌else◌, refl, sym, ap, is_some, arith, All, Contains, IfOk, Ok, Err, Result, Vec, Global, int_eq, All-nil, All-cons, All-append, All-contains, All-contains_itself, All-weaker, Decides-int_eq}
+use Rattle.plan_base.specs.{Mode, Foot, Bike, Car, Place}
+use Rattle.geo_length.specs.{duration_of, length_between}
+use Rattle.opl_reader.specs.{OsmNode, OsmWay, ObjectLists.ObjectLists}
+use Rattle.road_profile.specs.{Direction, Both, Forward, Backward, Passage, RoadRow, passages_of, AreRoadArcs, JoinsPlaces, directed, legs_of, mode_legs, neighbours, pair_legs, piece_legs, place_of_node, placed_legs, row, step_legs, timed, way_legs, declared.passages.Passages.Passages}
 use Rattle.road_profile.proofs.TimedLaws.{All-flat_map}
 
 -- what holds of the rows both ways between two nodes, of each mode and time

@@ -1,16 +1,8 @@
 -- The first of each run of parallel rows, where the rows are in order.
-use Rattle.std.proofs.Common.{◌≡◌, ℕ, suc, ◌+◌, ◌<◌, ◌≤◌, List, [], ◌∷◌, length, get_or, Bool, true, false, ◌⊎◌, inl, inr, ⊎_elim, refl, sym, ap, ◌∙◌, subst, arith}
-use Rattle.std.specs.List.{All, AllPairs, Contains, dedup, dedup_from}
-use Rattle.std.specs.List.Sorted.{IsPermutation, IsSorted, IsStrictlySortedBy}
-use Rattle.std.specs.Ordering.{is_lt}
-use Rattle.std.specs.declared.cmp.Ordering.TheVariants.{Less, Equal}
-use Rattle.std.proofs.lemmas.Bool.{cases_lt}
-use Rattle.std.proofs.lemmas.List.Elements.{All-nil, All-cons, All-contains, All-weaker, All-from_recursion}
-use Rattle.std.proofs.lemmas.List.{get_or_default}
-use Rattle.std.proofs.lemmas.List.Sorted.{All-permutation, Contains-permutation, IsPermutation-sym}
-use Rattle.std.proofs.lemmas.List.Kept.{AllPairs-cons, Contains-from_dedup, IsStrictlySortedBy-dedup}
-use Rattle.road_profile.specs.declared.rows.RoadRow.{RoadRow}
-use Rattle.road_profile.specs.Arcs.{AreArcsOf, AreParallel, IsArcOf, row_cmp}
+use Rattle.plan_base.proofs.Common.{◌≡◌, ℕ, suc, ◌+◌, ◌<◌, ◌≤◌, List, [], ◌∷◌, length, get_or, Bool, true, false, ◌⊎◌, inl, inr, ⊎_elim, refl, sym, ap, ◌∙◌, subst, arith, All, AllPairs, Contains, dedup, IsPermutation, IsSorted, is_lt, Less, Equal, cases_lt, All-nil, All-cons, All-contains, All-weaker, All-from_recursion, get_or_default, All-permutation, Contains-permutation, IsPermutation-sym, AllPairs-cons, Contains-from_dedup, IsStrictlySortedBy-dedup}
+use Rattle.std.specs.List.Sorted.{IsStrictlySortedBy}
+use Rattle.std.specs.List.{dedup_from}
+use Rattle.road_profile.specs.{RoadRow, AreArcsOf, AreParallel, IsArcOf, row_cmp}
 use Rattle.road_profile.proofs.RowOrder.{full_cmp, parallel_from_same, parallel_least, parallel_ties, row_cmp_total, row_earlier, same_key, same_key_ties}
 
 -- each row is in order with the next

@@ -1,12 +1,8 @@
 -- Places of nodes.
-use Rattle.std.proofs.Common.{◌≡◌, ℤ, List, [], ◌∷◌, ◌++◌, true, false, Option, Some, if◌then◌else◌, refl, ap, ◌∙◌}
-use Rattle.std.specs.Ordering.{int_eq}
-use Rattle.plan_base.specs.declared.places.Place.{Place}
-use Rattle.std.specs.List.{flat_map}
-use Rattle.opl_reader.specs.declared.objects.OsmNode.{OsmNode}
-use Rattle.opl_reader.specs.ObjectLists.{ObjectLists}
-use Rattle.road_profile.specs.declared.rows.RoadRow.{RoadRow}
-use Rattle.road_profile.specs.Legs.{legs_of, place_of_node, place_with, way_legs}
+use Rattle.plan_base.proofs.Common.{◌≡◌, ℤ, List, [], ◌∷◌, ◌++◌, true, false, Option, Some, if◌then◌else◌, refl, ap, ◌∙◌, int_eq, flat_map}
+use Rattle.plan_base.specs.{Place}
+use Rattle.opl_reader.specs.{OsmNode, ObjectLists.ObjectLists}
+use Rattle.road_profile.specs.{RoadRow, legs_of, place_of_node, place_with, way_legs}
 
 -- one more node
 pub place_at-push : (nodes : List OsmNode) (node : OsmNode) (id : ℤ) → place_of_node (nodes ++ node ∷ []) id ≡ place_with (place_of_node nodes id) node id

@@ -1,17 +1,7 @@
 -- The order of rows.
-use Rattle.std.proofs.Common.{◌≡◌, ℕ, ℤ, ◌≤◌, Ordering, Bool, true, false, ◌&&◌, refl, arith, nat_eq, Some, ap, sym, ◌∙◌}
-use Rattle.std.specs.Cmp.{IsTotalOrder}
-use Rattle.std.specs.Ordering.{eq_by_cmp, int_cmp, int_eq, is_eq, is_lt, nat_cmp, ordering_then}
-use Rattle.std.specs.declared.cmp.Ordering.TheVariants.{Less, Equal, Greater}
-use Rattle.std.proofs.lemmas.Bool.Decides.{nat_tests}
-use Rattle.std.proofs.lemmas.Int.{ints}
-use Rattle.std.proofs.lemmas.Cmp.{int_cmp_total, nat_cmp_total, on_total, then_total, tied_itself}
-use Rattle.std.proofs.lemmas.Option.{same_Some}
-use Rattle.plan_base.specs.Modes.{mode_numbered, number_of_mode}
-use Rattle.plan_base.specs.declared.modes.Mode.{Mode}
-use Rattle.plan_base.specs.declared.modes.Mode.TheVariants.{Foot, Bike, Car}
-use Rattle.road_profile.specs.declared.rows.RoadRow.{RoadRow}
-use Rattle.road_profile.specs.Arcs.{AreParallel, row_cmp}
+use Rattle.plan_base.proofs.Common.{◌≡◌, ℕ, ℤ, ◌≤◌, Bool, true, false, ◌&&◌, refl, arith, nat_eq, Some, ap, sym, ◌∙◌, IsTotalOrder, eq_by_cmp, int_cmp, int_eq, is_eq, is_lt, nat_cmp, ordering_then, Less, Equal, Greater, nat_tests, ints, int_cmp_total, nat_cmp_total, on_total, then_total, tied_itself, same_Some, Ordering}
+use Rattle.plan_base.specs.{mode_numbered, number_of_mode, Mode, Foot, Bike, Car}
+use Rattle.road_profile.specs.{RoadRow, AreParallel, row_cmp}
 
 -- the order of the sort: at equal ends and an equal mode the time decides
 abbrev pub full_cmp : RoadRow → RoadRow → Ordering

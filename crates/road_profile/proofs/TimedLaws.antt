@@ -1,27 +1,9 @@
 -- Each leg takes some time.
-use Rattle.std.proofs.Common.{◌≡◌, ℕ, ℤ, ◌<◌, ◌≤◌, ◌^◌, ◌*◌, List, [], ◌∷◌, Bool, true, false, Option, Some, None, if◌then◌else◌, arith, max, refl}
-use Rattle.std.specs.List.{All, Contains, flat_map}
-use Rattle.std.specs.Prelude.{nat_lt, IfOk, Ok, Err, Result, Vec}
-use Rattle.std.specs.declared.alloc.Global.{Global}
-use Rattle.std.specs.Int.{div_ceil}
-use Rattle.std.specs.Ordering.{int_eq}
-use Rattle.std.proofs.lemmas.Option.{cond_some}
-use Rattle.std.proofs.lemmas.List.Elements.{All-nil, All-cons, All-append, All-contains, All-contains_itself, All-weaker}
-use Rattle.plan_base.specs.declared.modes.Mode.{Mode}
-use Rattle.plan_base.specs.declared.modes.Mode.TheVariants.{Foot, Bike, Car}
-use Rattle.plan_base.specs.declared.places.Place.{Place}
-use Rattle.geo_length.specs.Durations.{duration_of}
-use Rattle.geo_length.specs.Lengths.{length_between}
-use Rattle.opl_reader.specs.declared.objects.OsmWay.{OsmWay}
-use Rattle.opl_reader.specs.ObjectLists.{ObjectLists}
-use Rattle.road_profile.specs.declared.rules.Direction.{Direction}
-use Rattle.road_profile.specs.declared.rules.Direction.TheVariants.{Both, Forward, Backward}
-use Rattle.road_profile.specs.declared.passages.Passage.{Passage}
-use Rattle.road_profile.specs.declared.passages.Passages.{Passages}
-use Rattle.road_profile.specs.declared.rows.RoadRow.{RoadRow}
-use Rattle.road_profile.specs.Passages.{passages_of}
-use Rattle.road_profile.specs.Arcs.{AreRoadArcs, IsTimed}
-use Rattle.road_profile.specs.Legs.{directed, legs_of, mode_legs, neighbours, pair_legs, piece_legs, place_of_node, placed_legs, row, step_legs, timed, way_legs}
+use Rattle.plan_base.proofs.Common.{◌≡◌, ℕ, ℤ, ◌≤◌, ◌^◌, ◌*◌, List, [], ◌∷◌, Bool, true, false, Option, Some, None, if◌then◌else◌, arith, max, refl, All, Contains, flat_map, nat_lt, IfOk, Ok, Err, Result, Vec, Global, div_ceil, int_eq, cond_some, All-nil, All-cons, All-append, All-contains, All-contains_itself, All-weaker}
+use Rattle.plan_base.specs.{Mode, Foot, Bike, Car, Place}
+use Rattle.geo_length.specs.{duration_of, length_between}
+use Rattle.opl_reader.specs.{OsmWay, ObjectLists.ObjectLists}
+use Rattle.road_profile.specs.{Direction, Both, Forward, Backward, Passage, RoadRow, passages_of, AreRoadArcs, IsTimed, directed, legs_of, mode_legs, neighbours, pair_legs, piece_legs, place_of_node, placed_legs, row, step_legs, timed, way_legs, declared.passages.Passages.Passages}
 
 -- what holds of all that each element gives
 pub All-flat_map : {X Y : Type 0} (P : Y → Type 0) (f : X → List Y) → ((x : X) → All P (f x)) → (xs : List X) → All P (flat_map f xs)

@@ -3,10 +3,9 @@ use Rattle.std.specs.Prelude.{◌≡◌, ◌≤◌, ◌↔◌, List, All, AllPai
 use Rattle.std.specs.Ordering.{int_cmp, nat_cmp, ordering_then}
 use Rattle.std.specs.declared.cmp.Ordering.{Ordering}
 use Rattle.std.specs.declared.cmp.Ordering.TheVariants.{Less}
-use Rattle.plan_base.specs.Modes.{number_of_mode}
-use Rattle.opl_reader.specs.declared.objects.OsmNode.{OsmNode}
-use Rattle.opl_reader.specs.ObjectLists.{ObjectLists}
-use Rattle.road_profile.specs.declared.rows.RoadRow.{RoadRow}
+use Rattle.plan_base.specs.{number_of_mode}
+use Rattle.opl_reader.specs.{OsmNode, ObjectLists.ObjectLists}
+pub use Rattle.road_profile.specs.declared.rows.RoadRow.{RoadRow}
 use Rattle.road_profile.specs.Legs.{legs_of, place_of_node}
 
 -- two rows have the same ends and the same mode

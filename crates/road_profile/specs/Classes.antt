@@ -2,7 +2,7 @@
 -- cars in mm/s, where they may.
 use Rattle.std.specs.Prelude.{ℕ, List, [], ◌∷◌, Bool, true, false, Option, Some, None, codes, bytes_eq}
 use Rattle.std.specs.Map.{lookup}
-use Rattle.road_profile.specs.declared.classes.Class.{Class}
+pub use Rattle.road_profile.specs.declared.classes.Class.{Class}
 
 abbrev pub road : Bool → Bool → Option ℕ → Class
 road foot bike car = record { foot = foot; bike = bike; car = car }

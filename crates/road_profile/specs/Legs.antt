@@ -1,21 +1,11 @@
 -- The legs of a map's ways: each leads from a node to a neighbour of it on a way, in a mode that may go so.
-use Rattle.std.specs.Prelude.{ℕ, ℤ, List, [], ◌∷◌, ◌++◌, Option, Some, None, if◌then◌else◌}
-use Rattle.std.specs.List.{flat_map}
+use Rattle.std.specs.Prelude.{ℕ, ℤ, List, [], ◌∷◌, ◌++◌, Option, Some, None, if◌then◌else◌, flat_map}
 use Rattle.std.specs.Ordering.{int_eq}
-use Rattle.plan_base.specs.declared.modes.Mode.{Mode}
-use Rattle.plan_base.specs.declared.modes.Mode.TheVariants.{Foot, Bike, Car}
-use Rattle.plan_base.specs.declared.places.Place.{Place}
-use Rattle.opl_reader.specs.declared.objects.OsmNode.{OsmNode}
-use Rattle.opl_reader.specs.declared.objects.OsmWay.{OsmWay}
-use Rattle.opl_reader.specs.ObjectLists.{ObjectLists}
-use Rattle.geo_length.specs.Durations.{duration_of}
-use Rattle.geo_length.specs.Lengths.{length_between}
-use Rattle.road_profile.specs.declared.rules.Direction.{Direction}
-use Rattle.road_profile.specs.declared.rules.Direction.TheVariants.{Both, Forward, Backward}
-use Rattle.road_profile.specs.declared.passages.Passage.{Passage}
-use Rattle.road_profile.specs.declared.passages.Passages.{Passages}
-use Rattle.road_profile.specs.declared.rows.RoadRow.{RoadRow}
-use Rattle.road_profile.specs.Passages.{passages_of}
+use Rattle.plan_base.specs.{Mode, Foot, Bike, Car, Place}
+use Rattle.opl_reader.specs.{OsmNode, OsmWay, ObjectLists.ObjectLists}
+use Rattle.geo_length.specs.{duration_of, length_between}
+pub use Rattle.road_profile.specs.{declared.rules.Direction.Direction, declared.rules.Direction.TheVariants.Both, declared.rules.Direction.TheVariants.Forward, declared.rules.Direction.TheVariants.Backward, declared.passages.Passage.Passage, declared.passages.Passages.Passages}
+use Rattle.road_profile.specs.{declared.rows.RoadRow.RoadRow, Passages.passages_of}
 
 -- the place of the node with this id
 abbrev pub place_of_node : List OsmNode → ℤ → Option Place

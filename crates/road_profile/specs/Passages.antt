@@ -1,13 +1,6 @@
 -- How the modes may use a way with some tags.
 use Rattle.std.specs.Prelude.{ℕ, ◌≤◌, IfSome, List, [], ◌∷◌, Bool, Option, Some, None, option_map, codes, if◌then◌else◌}
-use Rattle.road_profile.specs.declared.classes.Class.{Class}
-use Rattle.road_profile.specs.declared.rules.Direction.{Direction}
-use Rattle.road_profile.specs.declared.rules.Direction.TheVariants.{Both}
-use Rattle.road_profile.specs.declared.passages.Passage.{Passage}
-use Rattle.road_profile.specs.declared.passages.Passages.{Passages}
-use Rattle.road_profile.specs.Classes.{class_named}
-use Rattle.road_profile.specs.Rules.{bike_direction, car_direction, speed_by}
-use Rattle.road_profile.specs.Tags.{is_among, value_of}
+use Rattle.road_profile.specs.{declared.classes.Class.Class, declared.rules.Direction.Direction, declared.rules.Direction.TheVariants.Both, declared.passages.Passage.Passage, declared.passages.Passages.Passages, Classes.class_named, Rules.bike_direction, Rules.car_direction, Rules.speed_by, Tags.is_among, Tags.value_of}
 
 -- a speed where the class lets a mode use the way
 abbrev pub where_let : Bool → ℕ → Option ℕ

@@ -1,8 +1,6 @@
 -- Who may use a way and how fast, and in which directions.
 use Rattle.std.specs.Prelude.{ℕ, List, [], ◌∷◌, Bool, ◌||◌, Option, Some, None, unwrap_or, codes, bytes_eq, if◌then◌else◌}
-use Rattle.road_profile.specs.declared.rules.Direction.{Direction}
-use Rattle.road_profile.specs.declared.rules.Direction.TheVariants.{Both, Forward, Backward}
-use Rattle.road_profile.specs.Tags.{is_among}
+use Rattle.road_profile.specs.{declared.rules.Direction.Direction, declared.rules.Direction.TheVariants.Both, declared.rules.Direction.TheVariants.Forward, declared.rules.Direction.TheVariants.Backward, Tags.is_among}
 
 -- values of a mode's own tag by which it may use the way
 unfoldable pub grants : Option (List ℕ) → Bool

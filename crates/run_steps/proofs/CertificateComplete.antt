@@ -1,10 +1,7 @@
 -- A certificate's file that is there, of a certificate that is valid, is verified.
-use Rattle.std.proofs.Common.{ℕ, inl, inr, List}
-use Rattle.run_steps.specs.declared.outcome.FileRole.TheVariants.{Certificate}
-use Rattle.run_steps.specs.Complete.{Files, IsHeld, Completes}
+use Rattle.plan_base.proofs.Common.{ℕ, inl, inr, List}
+use Rattle.run_steps.specs.{Certificate, Files, IsHeld, Completes, CertificateKind, OnCertificate, SaysVerified, TellsValid, WritesText}
 use Rattle.run_steps.proofs.CompleteSteps.{file_completes, writes_completes}
-use Rattle.run_steps.specs.Certificates.{CertificateKind, OnCertificate, SaysVerified, TellsValid}
-use Rattle.run_steps.specs.Sayings.{WritesText}
 
 module _ (files : Files) (kind : CertificateKind) (IsValid : List ℕ → Type 0)
     (spells : (bytes : List ℕ) → IsValid bytes → (line : ℕ) → kind.IsBadLine bytes line → ⊥)

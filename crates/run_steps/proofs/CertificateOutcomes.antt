@@ -1,13 +1,7 @@
 -- What the steps of a run answer, put together to what the run says.
-use Rattle.std.proofs.Common.{ℕ, inl, inr, List, refl}
-use Rattle.plan_base.specs.Shelves.{ShelfMeaning, IsLater, HasRead}
-use Rattle.plan_base.specs.Sinks.{SinkMeaning, Stays}
-use Rattle.run_steps.specs.declared.outcome.Outcome.{Outcome}
-use Rattle.run_steps.specs.declared.outcome.Outcome.TheVariants.{Done, Usage, Missing, ReadFault, TooLong, WriteFault, BadRegion, BadFeed, Invalid, BadCertificate, BadHierarchy, Unsound, OutOfMemory}
-use Rattle.run_steps.specs.Scene.{scene}
-use Rattle.run_steps.specs.Sayings.{most_bytes}
-use Rattle.run_steps.specs.Certificates.{CertificateKind, SaysVerified}
-use Rattle.run_steps.specs.CertificateCauses.{IsUnverified}
+use Rattle.plan_base.proofs.Common.{ℕ, inl, inr, List, refl}
+use Rattle.plan_base.specs.{ShelfMeaning, IsLater, HasRead, SinkMeaning, Stays}
+use Rattle.run_steps.specs.{Outcome, Done, Usage, Missing, ReadFault, TooLong, WriteFault, BadRegion, BadFeed, Invalid, BadCertificate, BadHierarchy, Unsound, OutOfMemory, scene, most_bytes, CertificateKind, SaysVerified, IsUnverified}
 
 module _ (kind : CertificateKind) (old new : ShelfMeaning) (before after : SinkMeaning) (name bytes : List ℕ) (read : HasRead old name most_bytes bytes) (later : IsLater old new) where
   -- the bytes were not verified

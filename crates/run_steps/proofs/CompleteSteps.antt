@@ -1,21 +1,10 @@
 -- A run whose files are there and without fault ends with its work done, step by step.
-use Rattle.std.proofs.Common.{◌≡◌, ℕ, ◌<◌, ◌∙◌, inl, inr, List, Option, Some, None, subst, arith}
-use Rattle.std.specs.Prelude.{⊤, length, IfSome, IsSomeAnd}
-use Rattle.plan_base.specs.Counts.{Rose}
-use Rattle.plan_base.specs.Shelves.{IsLater, ShelfMeaning, Told}
-use Rattle.plan_base.specs.declared.limits.Caps.{Caps}
-use Rattle.mode_network.specs.NetworkLists.{NetworkLists}
-use Rattle.mode_network.specs.Rules.{IsNetwork}
-use Rattle.region_file.specs.declared.fault.RegionFault.{RegionFault}
+use Rattle.plan_base.proofs.Common.{◌≡◌, ℕ, ◌<◌, ◌∙◌, inl, inr, List, Option, Some, None, subst, arith, ⊤, length, IfSome, IsSomeAnd}
+use Rattle.plan_base.specs.{Rose, IsLater, ShelfMeaning, Told, Caps}
+use Rattle.mode_network.specs.{NetworkLists.NetworkLists, IsNetwork}
+use Rattle.region_file.specs.{RegionFault, IsDecoded, IsNoRegion}
 use Rattle.region_file.specs.declared.fault.RegionFault.TheVariants as no
-use Rattle.region_file.specs.Regions.{IsDecoded, IsNoRegion}
-use Rattle.run_steps.specs.declared.outcome.FileRole.{FileRole}
-use Rattle.run_steps.specs.declared.outcome.Outcome.{Outcome}
-use Rattle.run_steps.specs.declared.outcome.Outcome.TheVariants.{Done, Usage, Missing, ReadFault, TooLong, WriteFault, BadRegion, BadFeed, Invalid, BadCertificate, BadHierarchy, Unsound, OutOfMemory}
-use Rattle.run_steps.specs.Scene.{Scene, with_shelf}
-use Rattle.run_steps.specs.Sayings.{Saying, IsUnread, OnFile, Writes, most_of}
-use Rattle.run_steps.specs.Regions.{OnNetwork}
-use Rattle.run_steps.specs.Complete.{Files, IsHeld, IsQuiet, SpellsNetwork, IsDoneOrMemory, Completes}
+use Rattle.run_steps.specs.{FileRole, Outcome, Done, Usage, Missing, ReadFault, TooLong, WriteFault, BadRegion, BadFeed, Invalid, BadCertificate, BadHierarchy, Unsound, OutOfMemory, with_shelf, Saying, IsUnread, OnFile, Writes, most_of, OnNetwork, Files, IsHeld, IsQuiet, SpellsNetwork, IsDoneOrMemory, Completes, Scene.Scene}
 use Rattle.run_steps.proofs.Steps.{rose_over}
 
 -- a run is quiet behind a read if it is so as a whole

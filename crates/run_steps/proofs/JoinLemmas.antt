@@ -1,11 +1,9 @@
 -- What is right for some lines and for the lines behind them is right for all of them.
-use Rattle.std.proofs.Common.{◌≡◌, ℕ, ◌+◌, ◌∙◌, inl, inr, List, [], ◌∷◌, ◌++◌, append_assoc, append-nil, take, Option, Some, refl, ap, sym, subst, arith}
-use Rattle.std.specs.Prelude.{option_to_list}
-use Rattle.plain_texts.specs.Lines.{lines_text, with_feed}
-use Rattle.plan_base.specs.Sinks.{SinkMeaning, Stays}
+use Rattle.plan_base.proofs.Common.{◌≡◌, ℕ, ◌+◌, ◌∙◌, inl, inr, List, [], ◌∷◌, ◌++◌, append_assoc, take, Option, Some, refl, ap, sym, subst, arith, option_to_list}
+use Rattle.plain_texts.specs.{lines_text, with_feed}
+use Rattle.plan_base.specs.{SinkMeaning, Stays}
 use Rattle.plan_base.proofs.MoreWritten.{appended_nothing, appended_stays, appended_twice}
-use Rattle.run_steps.specs.QueryLines.{as_query, without_return, queries_among}
-use Rattle.run_steps.specs.Blocks.{BlockRule, AreBlocks, WroteBlocks, BeginsNext, WroteFront, WrotePart, AreCounted}
+use Rattle.run_steps.specs.{as_query, without_return, queries_among, BlockRule, AreBlocks, WroteBlocks, BeginsNext, WroteFront, WrotePart, AreCounted}
 
 pub queries_join : (xs ys : List (List ℕ)) → queries_among (xs ++ ys) ≡ queries_among xs ++ queries_among ys
 queries_join [] ys = refl
@@ -43,14 +41,6 @@ module _ (IsBlock : BlockRule) where
   -- it has taken blocks, and nothing since
   pub wrote_stays : (old mid new : SinkMeaning) (lines : List (List ℕ)) → WroteBlocks old mid IsBlock lines → Stays mid new → WroteBlocks old new IsBlock lines
   wrote_stays old mid new lines wrote same = record { out = wrote.out; is = wrote.is; appended = appended_stays old mid new wrote.out wrote.appended same }
-
-  -- all blocks are a front of them
-  pub wrote_begins : (old new : SinkMeaning) (lines : List (List ℕ)) → WroteBlocks old new IsBlock lines → WroteFront old new IsBlock lines
-  wrote_begins old new lines wrote = record {
-    out = wrote.out;
-    is = record { done = lines; rest = []; whole = wrote.out; part = []; lines_are = sym (append-nil lines); blocks = wrote.is; next = refl; out_is = sym (append-nil wrote.out) };
-    appended = wrote.appended;
-  }
 
   -- nothing of the blocks of lines is a front of them
   pub wrote_none : (old new : SinkMeaning) (lines : List (List ℕ)) → Stays old new → WroteFront old new IsBlock lines

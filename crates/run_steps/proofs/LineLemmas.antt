@@ -1,9 +1,6 @@
 -- The lines of a text that begins with lines.
-use Rattle.std.proofs.Common.{◌≡◌, ℕ, ◌<◌, ◌≤◌, ◌∙◌, List, [], ◌∷◌, ◌++◌, append_assoc, length, length-append, false, Option, Some, None, refl, ap, sym, arith}
-use Rattle.std.specs.Prelude.{All}
-use Rattle.std.proofs.lemmas.List.Elements.{All-head, All-tail, All-append}
-use Rattle.std.proofs.lemmas.List.Splits.{slice_split_none}
-use Rattle.plain_texts.specs.Lines.{is_feed, IsLine, lines_of, lines_of_pieces, lines_text, next_line_of, pieces}
+use Rattle.plan_base.proofs.Common.{◌≡◌, ℕ, ◌≤◌, ◌∙◌, List, [], ◌∷◌, ◌++◌, append_assoc, length, length-append, false, Option, Some, None, refl, ap, sym, arith, All, All-head, All-tail, All-append, slice_split_none}
+use Rattle.plain_texts.specs.{is_feed, IsLine, lines_of, lines_of_pieces, lines_text, next_line_of, pieces}
 use Rattle.plain_texts.proofs.Pieces.{next_line_exact, pieces_cons, pieces_line}
 
 -- what has no line feed, one behind the other

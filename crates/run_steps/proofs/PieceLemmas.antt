@@ -1,34 +1,12 @@
 -- A file that is answered piece by piece.
-use Rattle.std.proofs.Common.{◌≡◌, ℕ, ◌+◌, ◌<◌, ◌≤◌, ◌∙◌, inl, inr, List, [], ◌∷◌, ◌++◌, append_assoc, append-nil, take, drop, length, length-append, length-take-le, Bool, true, false, cond, nat_eq, Option, Some, None, refl, ap, sym, subst, arith}
-use Rattle.std.specs.Prelude.{⊤, All, IfSome, IsSomeAnd, unwrap_or}
-use Rattle.std.proofs.Math.Seq.{drop-append_seam}
-use Rattle.std.proofs.lemmas.List.{nil_from_length, take-append-drop}
-use Rattle.std.proofs.lemmas.List.Elements.{All-append, All-cons, All-nil}
-use Rattle.plain_texts.specs.Lines.{IsLine, lines_of, lines_text}
-use Rattle.plan_base.specs.ReadFaults.{read_fault_of}
+use Rattle.plan_base.proofs.Common.{◌≡◌, ℕ, ◌+◌, ◌<◌, ◌≤◌, ◌∙◌, inl, inr, List, [], ◌∷◌, ◌++◌, append_assoc, append-nil, take, drop, length, length-append, length-take-le, Bool, true, false, cond, nat_eq, Option, Some, None, refl, ap, sym, subst, arith, ⊤, All, IfSome, IsSomeAnd, unwrap_or, drop-append_seam, nil_from_length, take-append-drop, All-append, All-cons, All-nil, nat_tests}
+use Rattle.plain_texts.specs.{IsLine, lines_of, lines_text}
+use Rattle.plan_base.specs.{read_fault_of, HasCause, ShelfMeaning, IsLater, Told, Gave, AreBytesAt, SinkMeaning, Appended, Stays, ShelfError}
 use Rattle.plan_base.specs.declared.reading.ReadFault.TheVariants as cause
-use Rattle.std.proofs.lemmas.Bool.Decides.{nat_tests}
-use Rattle.plan_base.specs.ShelfCauses.{HasCause}
-use Rattle.plan_base.specs.Shelves.{ShelfMeaning, IsLater, Told, Gave, AreBytesAt}
-use Rattle.plan_base.specs.Sinks.{SinkMeaning, Appended, Stays}
-use Rattle.plan_base.specs.declared.reading.ShelfError.{ShelfError}
 use Rattle.plan_base.specs.declared.reading.ShelfError.TheVariants as shelf
-use Rattle.run_steps.specs.declared.outcome.FileRole.{FileRole}
-use Rattle.run_steps.specs.declared.outcome.Outcome.{Outcome}
-use Rattle.run_steps.specs.declared.outcome.Outcome.TheVariants.{Done, Usage, Missing, ReadFault, TooLong, WriteFault, BadRegion, BadFeed, Invalid, BadCertificate, BadHierarchy, Unsound, OutOfMemory}
-use Rattle.run_steps.specs.Scene.{Scene, scene}
+use Rattle.run_steps.specs.{FileRole, Outcome, Done, Usage, Missing, ReadFault, TooLong, WriteFault, BadRegion, BadFeed, Invalid, BadCertificate, BadHierarchy, Unsound, OutOfMemory, scene, Saying, queries_among, query_lines, BlockRule, AreBlocks, WroteBlocks, AreCounted, HasAnswered, HasReadLines, HasReadTo, IsLost, IsReadTo, IsShort, StopsInTurn, outcome_of, Scene.Scene, inside.IsBlocksOutcome, inside.AreAnswered, inside.AreEnded, inside.IsBegun, inside.IsPieceOutcome, inside.IsSumWith, inside.IsUpToDate, inside.fault_at, InTurn.InTurn}
 use Rattle.plan_base.proofs.MoreWritten.{stays_so}
-use Rattle.run_steps.specs.Sayings.{Saying}
-use Rattle.run_steps.specs.QueryLines.{queries_among, query_lines}
-use Rattle.run_steps.specs.Blocks.{BlockRule, AreBlocks, WroteBlocks, AreCounted}
-use Rattle.run_steps.specs.inside.BlockCauses.{IsBlocksOutcome}
-use Rattle.run_steps.specs.InTurn.{HasAnswered, InTurn, HasReadLines, HasReadTo, IsLost, IsReadTo, IsShort, StopsInTurn}
-use Rattle.run_steps.specs.inside.TurnCauses.{AreAnswered, AreEnded, IsBegun, IsPieceOutcome, IsSumWith, IsUpToDate, fault_at}
-use Rattle.run_steps.specs.Working.{outcome_of}
-use Rattle.run_steps.proofs.Steps.{later_twice, not_earlier, rose_over, told_before}
-use Rattle.run_steps.proofs.JoinLemmas.{counted_join, queries_join, wrote_none, wrote_on, wrote_twice}
-use Rattle.run_steps.proofs.LineLemmas.{lines_before, lines_none, lines_one}
-use Rattle.run_steps.proofs.TurnLemmas.{answered_more, answered_twice, none_answered, piece_fails}
+use Rattle.run_steps.proofs.{Steps.later_twice, Steps.rose_over, Steps.told_before, JoinLemmas.counted_join, JoinLemmas.queries_join, JoinLemmas.wrote_none, JoinLemmas.wrote_on, JoinLemmas.wrote_twice, LineLemmas.lines_before, LineLemmas.lines_none, LineLemmas.lines_one, TurnLemmas.answered_more, TurnLemmas.answered_twice, TurnLemmas.piece_fails}
 
 -- what a shelf tells, and what follows from it
 told_so : (s : ShelfMeaning) (name : List ℕ) (P Q : Option (List ℕ) → Type 0) → ((held : Option (List ℕ)) → P held → Q held) → Told s name P → Told s name Q
@@ -133,21 +111,6 @@ pub record IsGoingOn (IsBlock : BlockRule) (Counts : List ℕ → ℕ → Type 0
   pub begun : IsBegun rest
 
 module _ (file : FileRole) (IsBlock : BlockRule) (Counts : List ℕ → ℕ → Type 0) (name : List ℕ) (first : Scene ⊤) where
-  pub going_starts : IsGoingOn IsBlock Counts name 0 first first [] 0
-  going_starts = record {
-    later = not_earlier first.shelf;
-    faults = omega arith;
-    read = [];
-    front = nothing first.shelf.files;
-    long = refl;
-    answered = none_answered IsBlock Counts first.out [];
-    begun = (All-nil _, omega arith);
-  }
-    where
-      nothing : (files : Option (List ℕ → Option (List ℕ))) → IfSome files (λ f. Begins [] (f name))
-      nothing None = tt
-      nothing (Some f) = (unwrap_or (f name) [], refl)
-
   module _ (place : ℕ) (mid : ShelfMeaning) (out : SinkMeaning) (rest : List ℕ) (sum : ℕ) (going : IsGoingOn IsBlock Counts name place first (scene mid out) rest sum) where
     pub up_to_date : IsUpToDate IsBlock name place first (scene mid out)
     up_to_date = record {

@@ -1,22 +1,10 @@
 -- What the steps of a run answer, put together to what the run says.
-use Rattle.std.proofs.Common.{◌≡◌, ℕ, ◌<◌, ◌≤◌, ◌∙◌, inl, inr, List, Option, None, Ok, Err, take, refl, subst, arith, rules}
-use Rattle.std.specs.Prelude.{⊤, Result, IfErr, IfSome, IsSomeAnd, OnOk, length}
-use Rattle.plan_base.specs.Counts.{Rose}
-use Rattle.plan_base.specs.Shelves.{ShelfMeaning, IsLater, HasRead, Told}
-use Rattle.plan_base.specs.Sinks.{SinkMeaning, Appended, Stays}
-use Rattle.plan_base.specs.declared.limits.Caps.{Caps}
+use Rattle.plan_base.proofs.Common.{◌≡◌, ℕ, ◌<◌, ◌≤◌, ◌∙◌, inl, inr, List, Option, None, Ok, Err, take, refl, subst, arith, rules, ⊤, Result, IfErr, IfSome, IsSomeAnd, OnOk, length}
+use Rattle.plan_base.specs.{Rose, ShelfMeaning, IsLater, HasRead, Told, SinkMeaning, Appended, Stays, Caps}
 use Rattle.mode_network.specs.NetworkLists.{NetworkLists}
-use Rattle.region_file.specs.declared.fault.RegionFault.{RegionFault}
+use Rattle.region_file.specs.{RegionFault, IsRefusedRegion}
 use Rattle.region_file.specs.declared.fault.RegionFault.TheVariants as no
-use Rattle.region_file.specs.Regions.{IsRefusedRegion}
-use Rattle.run_steps.specs.declared.outcome.Outcome.{Outcome}
-use Rattle.run_steps.specs.declared.outcome.Outcome.TheVariants.{Done, Usage, Missing, ReadFault, TooLong, WriteFault, BadRegion, BadFeed, Invalid, BadCertificate, BadHierarchy, Unsound, OutOfMemory}
-use Rattle.run_steps.specs.declared.outcome.FileRole.{FileRole}
-use Rattle.run_steps.specs.declared.outcome.FileRole.TheVariants.{Region}
-use Rattle.run_steps.specs.Scene.{scene}
-use Rattle.run_steps.specs.Sayings.{Saying, IsUnread, IsUnreadable, WritesText, end_of, most_of}
-use Rattle.run_steps.specs.Regions.{OnRegion}
-use Rattle.run_steps.specs.Working.{HasRegion, IsRegionOutcome, IsTextOutcome, region_outcome}
+use Rattle.run_steps.specs.{Outcome, Done, Usage, Missing, ReadFault, TooLong, WriteFault, BadRegion, BadFeed, Invalid, BadCertificate, BadHierarchy, Unsound, OutOfMemory, FileRole, Region, scene, Saying, IsUnread, IsUnreadable, WritesText, end_of, most_of, OnRegion, HasRegion, IsRegionOutcome, IsTextOutcome, region_outcome}
 
 -- a count that rose in the second of two calls rose over both
 pub rose_over : (first second third : ℕ) → first ≤ second → Rose second third → Rose first third

@@ -1,18 +1,8 @@
 -- A file that is there, whose lines are not too long, is answered to its end.
-use Rattle.std.proofs.Common.{◌≡◌, ℕ, ◌<◌, ◌∙◌, inl, inr, List, [], ◌∷◌, ◌++◌, append_assoc, length, length-append, None, ap, sym, subst, arith}
-use Rattle.std.specs.Prelude.{All, unwrap_or}
-use Rattle.std.proofs.Math.Seq.{drop-append_seam}
-use Rattle.std.proofs.lemmas.List.Elements.{All-drop, All-head}
-use Rattle.plain_texts.specs.Lines.{lines_of, lines_text}
-use Rattle.run_steps.specs.declared.outcome.FileRole.{FileRole}
-use Rattle.run_steps.specs.declared.outcome.Outcome.TheVariants.{Done, Usage, Missing, ReadFault, TooLong, WriteFault, BadRegion, BadFeed, Invalid, BadCertificate, BadHierarchy, Unsound, OutOfMemory}
-use Rattle.run_steps.specs.Sayings.{Saying, Ends}
-use Rattle.run_steps.specs.Blocks.{BlockRule}
-use Rattle.run_steps.specs.InTurn.{AnswersFile, InTurn, IsEndless, IsReadTo, IsShort, StopsInTurn, most_file_places}
-use Rattle.run_steps.specs.Complete.{Files, AreLinesHeld, Completes, IsDoneOrMemory}
-use Rattle.run_steps.proofs.CompleteSteps.{told_held}
-use Rattle.run_steps.proofs.Steps.{rose_over}
-use Rattle.run_steps.proofs.LineLemmas.{first_long, lines_before}
+use Rattle.plan_base.proofs.Common.{◌≡◌, ℕ, ◌<◌, ◌∙◌, inl, inr, List, [], ◌∷◌, ◌++◌, append_assoc, length, length-append, None, ap, sym, subst, arith, All, unwrap_or, drop-append_seam, All-drop, All-head}
+use Rattle.plain_texts.specs.{lines_of, lines_text}
+use Rattle.run_steps.specs.{FileRole, Done, Usage, Missing, ReadFault, TooLong, WriteFault, BadRegion, BadFeed, Invalid, BadCertificate, BadHierarchy, Unsound, OutOfMemory, Saying, Ends, BlockRule, AnswersFile, IsEndless, IsReadTo, IsShort, StopsInTurn, most_file_places, Files, AreLinesHeld, Completes, IsDoneOrMemory, InTurn.InTurn}
+use Rattle.run_steps.proofs.{CompleteSteps.told_held, Steps.rose_over, LineLemmas.first_long, LineLemmas.lines_before}
 
 -- no line of such a file is too long, and the file is not
 not_endless : (bytes : List ℕ) → All IsShort (lines_of bytes) → length bytes < most_file_places → (lines : List (List ℕ)) (rest : List ℕ) → IsReadTo bytes lines rest → IsEndless lines rest → ⊥

@@ -1,20 +1,10 @@
 -- Lines that are answered one after the other, and why no more of them were.
-use Rattle.std.proofs.Common.{◌≡◌, ℕ, ◌+◌, ◌≤◌, ◌∙◌, List, [], ◌∷◌, ◌++◌, append_assoc, append-nil, Some, refl, ap, sym, subst}
-use Rattle.std.specs.Prelude.{All}
-use Rattle.std.proofs.lemmas.List.Elements.{All-nil, All-cons, All-append}
-use Rattle.plain_texts.specs.Lines.{IsLine, lines_text}
-use Rattle.plan_base.specs.Sinks.{SinkMeaning}
+use Rattle.plan_base.proofs.Common.{◌≡◌, ℕ, ◌+◌, ◌≤◌, ◌∙◌, List, [], ◌∷◌, ◌++◌, append_assoc, append-nil, Some, refl, ap, sym, subst, All, All-nil, All-cons, All-append}
+use Rattle.plain_texts.specs.{IsLine, lines_text}
+use Rattle.plan_base.specs.{SinkMeaning}
 use Rattle.plan_base.proofs.MoreWritten.{stays_so}
-use Rattle.run_steps.specs.declared.outcome.FileRole.{FileRole}
-use Rattle.run_steps.specs.declared.outcome.Outcome.{Outcome}
-use Rattle.run_steps.specs.declared.outcome.Outcome.TheVariants.{Done, Usage, Missing, ReadFault, TooLong, WriteFault, BadRegion, BadFeed, Invalid, BadCertificate, BadHierarchy, Unsound, OutOfMemory}
-use Rattle.run_steps.specs.QueryLines.{as_query, queries_among, without_return}
-use Rattle.run_steps.specs.inside.BlockCauses.{IsBlockOutcome, IsBlocksOutcome}
-use Rattle.run_steps.specs.Blocks.{BlockRule, WroteBlocks, WroteFront, AreCounted}
-use Rattle.run_steps.specs.InTurn.{IsReadTo, IsShort}
-use Rattle.run_steps.specs.inside.TurnCauses.{AreAnswered, IsKeepOutcome, IsLineOutcome, IsPieceOutcome}
-use Rattle.run_steps.proofs.Steps.{rose_over}
-use Rattle.run_steps.proofs.JoinLemmas.{counted_join, queries_join, query_alone, text_join, wrote_none, wrote_nothing, wrote_on, wrote_part, wrote_stays, wrote_twice}
+use Rattle.run_steps.specs.{FileRole, Outcome, Done, Usage, Missing, ReadFault, TooLong, WriteFault, BadRegion, BadFeed, Invalid, BadCertificate, BadHierarchy, Unsound, OutOfMemory, as_query, queries_among, without_return, BlockRule, WroteBlocks, WroteFront, AreCounted, IsReadTo, IsShort, inside.IsBlockOutcome, inside.IsBlocksOutcome, inside.AreAnswered, inside.IsKeepOutcome, inside.IsLineOutcome, inside.IsPieceOutcome}
+use Rattle.run_steps.proofs.{Steps.rose_over, JoinLemmas.counted_join, JoinLemmas.queries_join, JoinLemmas.query_alone, JoinLemmas.text_join, JoinLemmas.wrote_none, JoinLemmas.wrote_nothing, JoinLemmas.wrote_on, JoinLemmas.wrote_part, JoinLemmas.wrote_stays, JoinLemmas.wrote_twice}
 
 one_line : (line : List ℕ) → IsLine line → All IsLine (line ∷ [])
 one_line line is = All-cons IsLine line [] is (All-nil IsLine)

@@ -1,6 +1,6 @@
 -- Right blocks of query lines, one after the other.
 use Rattle.std.specs.Prelude.{◌≡◌, ℕ, ◌+◌, ◌⊎◌, List, [], ◌∷◌, ◌++◌, take}
-use Rattle.plan_base.specs.Sinks.{SinkMeaning, AppendedPart}
+use Rattle.plan_base.specs.{SinkMeaning, AppendedPart}
 use Rattle.run_steps.specs.Sayings.{HasWritten}
 
 -- which blocks are right for a line

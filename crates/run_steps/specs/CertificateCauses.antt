@@ -1,8 +1,6 @@
 -- Why the bytes of a certificate were not verified.
 use Rattle.std.specs.Prelude.{ℕ, List}
-use Rattle.run_steps.specs.declared.outcome.Outcome.{Outcome}
-use Rattle.run_steps.specs.declared.outcome.Outcome.TheVariants.{Invalid, BadCertificate, OutOfMemory}
-use Rattle.run_steps.specs.Certificates.{CertificateKind}
+use Rattle.run_steps.specs.{declared.outcome.Outcome.Outcome, declared.outcome.Outcome.TheVariants.Invalid, declared.outcome.Outcome.TheVariants.BadCertificate, declared.outcome.Outcome.TheVariants.OutOfMemory, Certificates.CertificateKind}
 
 abbrev pub IsUnverified : CertificateKind → List ℕ → Outcome → Type 0
 IsUnverified kind bytes (BadCertificate line) = kind.IsBadLine bytes line

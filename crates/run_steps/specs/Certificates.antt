@@ -1,8 +1,7 @@
 -- Kinds of certificates, and what a run says that verifies one.
 use Rattle.std.specs.Prelude.{◌≡◌, ℕ, ◌⊎◌, List, ◌++◌, codes}
-use Rattle.plain_texts.specs.Lines.{with_feed}
-use Rattle.run_steps.specs.declared.outcome.FileRole.TheVariants.{Certificate}
-use Rattle.run_steps.specs.declared.outcome.Outcome.TheVariants.{Invalid, BadCertificate}
+use Rattle.plain_texts.specs.{with_feed}
+pub use Rattle.run_steps.specs.{declared.outcome.FileRole.TheVariants.Certificate, declared.outcome.Outcome.TheVariants.Invalid, declared.outcome.Outcome.TheVariants.BadCertificate}
 use Rattle.run_steps.specs.Sayings.{Saying, Ends, OnFile, WritesText}
 
 -- what bytes are as a certificate of some kind

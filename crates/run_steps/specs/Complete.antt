@@ -1,17 +1,10 @@
 -- When a run does all of its work: its files are there and without fault, and nothing failed.
 use Rattle.std.specs.Prelude.{◌≡◌, ℕ, ◌<◌, ◌≤◌, ⊤, List, length, All, Option, Some}
-use Rattle.plain_texts.specs.Lines.{lines_of}
-use Rattle.plan_base.specs.Counts.{Rose}
-use Rattle.plan_base.specs.declared.limits.Caps.{Caps}
+use Rattle.plain_texts.specs.{lines_of}
+use Rattle.plan_base.specs.{Rose, Caps}
 use Rattle.mode_network.specs.NetworkLists.{NetworkLists}
-use Rattle.region_file.specs.Regions.{IsDecoded}
-use Rattle.run_steps.specs.declared.outcome.FileRole.{FileRole}
-use Rattle.run_steps.specs.declared.outcome.FileRole.TheVariants.{Region}
-use Rattle.run_steps.specs.declared.outcome.Outcome.{Outcome}
-use Rattle.run_steps.specs.declared.outcome.Outcome.TheVariants.{Done, OutOfMemory}
-use Rattle.run_steps.specs.Scene.{Scene}
-use Rattle.run_steps.specs.Sayings.{Saying, most_of}
-use Rattle.run_steps.specs.InTurn.{IsShort, most_file_places}
+use Rattle.region_file.specs.{IsDecoded}
+use Rattle.run_steps.specs.{declared.outcome.FileRole.FileRole, declared.outcome.FileRole.TheVariants.Region, declared.outcome.Outcome.Outcome, declared.outcome.Outcome.TheVariants.Done, declared.outcome.Outcome.TheVariants.OutOfMemory, Scene.Scene, Sayings.Saying, Sayings.most_of, InTurn.IsShort, InTurn.most_file_places}
 
 -- what a shelf that tells holds under each name
 abbrev pub Files : Type 0

@@ -1,15 +1,8 @@
 -- What a run says that answers a file in turn: it reads it piece by piece, and writes the block of each line as soon as that has been read whole.
 use Rattle.std.specs.Prelude.{◌≡◌, ℕ, ◌^◌, ◌<◌, ◌≤◌, ◌⊎◌, ⊤, List, [], ◌++◌, length, All, Some, None, unwrap_or}
-use Rattle.plan_base.specs.Counts.{Rose}
-use Rattle.plan_base.specs.Shelves.{ShelfMeaning, IsLater, Told}
-use Rattle.plan_base.specs.Sinks.{SinkMeaning, Stays}
-use Rattle.plain_texts.specs.Lines.{IsLine, lines_of, lines_text}
-use Rattle.run_steps.specs.Scene.{Scene}
-use Rattle.run_steps.specs.Sayings.{Saying, Ends, HasWritten, IsAbsent, most_bytes}
-use Rattle.run_steps.specs.QueryLines.{queries_among, query_lines}
-use Rattle.run_steps.specs.Blocks.{BlockRule, AreBlocks, BeginsBlocks}
-use Rattle.run_steps.specs.declared.outcome.FileRole.{FileRole}
-use Rattle.run_steps.specs.declared.outcome.Outcome.TheVariants.{Done, Missing, ReadFault, TooLong, WriteFault, OutOfMemory}
+use Rattle.plan_base.specs.{Rose, ShelfMeaning, IsLater, Told, SinkMeaning, Stays}
+use Rattle.plain_texts.specs.{IsLine, lines_of, lines_text}
+use Rattle.run_steps.specs.{Scene.Scene, Sayings.Saying, Sayings.Ends, Sayings.HasWritten, Sayings.IsAbsent, Sayings.most_bytes, QueryLines.queries_among, QueryLines.query_lines, Blocks.BlockRule, Blocks.AreBlocks, Blocks.BeginsBlocks, declared.outcome.FileRole.FileRole, declared.outcome.Outcome.TheVariants.Done, declared.outcome.Outcome.TheVariants.Missing, declared.outcome.Outcome.TheVariants.ReadFault, declared.outcome.Outcome.TheVariants.TooLong, declared.outcome.Outcome.TheVariants.WriteFault, declared.outcome.Outcome.TheVariants.OutOfMemory}
 
 -- ---- what has been read
 

@@ -1,6 +1,6 @@
 -- The query lines of a queries file.
 use Rattle.std.specs.Prelude.{ℕ, ◌==◌, ◌-◌, List, [], ◌∷◌, ◌++◌, length, take, Option, Some, None, if◌then◌else◌, option_to_list, nat_lt, ◌&&◌, slice_index}
-use Rattle.plain_texts.specs.Lines.{lines_of}
+use Rattle.plain_texts.specs.{lines_of}
 
 -- a line without the carriage return at its end, if one stands there
 abbrev pub without_return : List ℕ → List ℕ

@@ -1,16 +1,10 @@
 -- What a run says that reads a region.
 use Rattle.std.specs.Prelude.{◌≡◌, ℕ, ◌⊎◌, List}
-use Rattle.plan_base.specs.declared.limits.Caps.{Caps}
-use Rattle.plan_base.specs.declared.limits.Kind.{Kind}
-use Rattle.plan_base.specs.CapsByKind.{cap_of}
-use Rattle.plan_base.specs.FullCaps.{full_cap_of}
-use Rattle.mode_network.specs.NetworkLists.{NetworkLists}
-use Rattle.mode_network.specs.Rules.{IsNetwork}
-use Rattle.region_file.specs.declared.fault.RegionFault.{RegionFault}
-use Rattle.region_file.specs.Regions.{IsDecoded, IsNoRegion}
-use Rattle.run_steps.specs.declared.outcome.FileRole.TheVariants.{Region}
-use Rattle.run_steps.specs.declared.outcome.Outcome.TheVariants.{BadRegion}
-use Rattle.run_steps.specs.Sayings.{Saying, Ends, OnFile}
+use Rattle.plan_base.specs.{Caps, Kind, cap_of, full_cap_of}
+use Rattle.mode_network.specs.{NetworkLists.NetworkLists, IsNetwork}
+use Rattle.region_file.specs.{RegionFault, IsDecoded, IsNoRegion}
+use Rattle.run_steps.specs.{declared.outcome.FileRole.TheVariants.Region, Sayings.Saying, Sayings.Ends, Sayings.OnFile}
+pub use Rattle.run_steps.specs.declared.outcome.Outcome.TheVariants.{BadRegion}
 
 -- the limits of the programs
 abbrev pub AreFull : Caps → Type 0

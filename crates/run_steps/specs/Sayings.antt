@@ -1,13 +1,8 @@
 -- What a run says by its outcome, put together from what it reads and what it writes.
 use Rattle.std.specs.Prelude.{◌≡◌, ℕ, ◌<◌, ◌^◌, ◌⊎◌, ⊤, List, length, take, None, Result, Ok, Err, IsSomeAnd}
-use Rattle.plan_base.specs.Counts.{Rose}
-use Rattle.plan_base.specs.Shelves.{ShelfMeaning, IsLater, Told, HasRead}
-use Rattle.plan_base.specs.Sinks.{SinkMeaning, Appended, Stays}
+use Rattle.plan_base.specs.{Rose, ShelfMeaning, IsLater, Told, HasRead, SinkMeaning, Appended, Stays}
 use Rattle.run_steps.specs.Scene.{Scene, SayingOf, with_shelf}
-use Rattle.run_steps.specs.declared.outcome.FileRole.{FileRole}
-use Rattle.run_steps.specs.declared.outcome.FileRole.TheVariants.{Region, Hierarchy}
-use Rattle.run_steps.specs.declared.outcome.Outcome.{Outcome}
-use Rattle.run_steps.specs.declared.outcome.Outcome.TheVariants.{Done, Missing, ReadFault, TooLong, WriteFault, OutOfMemory}
+pub use Rattle.run_steps.specs.{declared.outcome.FileRole.FileRole, declared.outcome.FileRole.TheVariants.Region, declared.outcome.FileRole.TheVariants.Hierarchy, declared.outcome.Outcome.Outcome, declared.outcome.Outcome.TheVariants.Done, declared.outcome.Outcome.TheVariants.Missing, declared.outcome.Outcome.TheVariants.ReadFault, declared.outcome.Outcome.TheVariants.TooLong, declared.outcome.Outcome.TheVariants.WriteFault, declared.outcome.Outcome.TheVariants.OutOfMemory}
 
 -- what is said of a run of the planner, by its outcome
 abbrev pub Saying : Type 1

@@ -1,7 +1,6 @@
 -- What a run works on, and sayings of it.
 use Rattle.std.specs.Prelude.{⊤}
-use Rattle.plan_base.specs.Shelves.{ShelfMeaning}
-use Rattle.plan_base.specs.Sinks.{SinkMeaning}
+use Rattle.plan_base.specs.{ShelfMeaning, SinkMeaning}
 
 -- what a run works on: the shelf that it reads from, the output that it writes to, and what else there is
 pub record Scene (K : Type 0) : Type 0 where

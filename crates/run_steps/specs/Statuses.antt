@@ -1,7 +1,7 @@
 -- The exit status of each outcome.
 use Rattle.std.specs.Prelude.{ℕ}
-use Rattle.run_steps.specs.declared.outcome.Outcome.{Outcome}
-use Rattle.run_steps.specs.declared.outcome.Outcome.TheVariants.{Done, Usage, Missing, ReadFault, TooLong, WriteFault, BadRegion, BadFeed, Invalid, BadCertificate, BadHierarchy, Unsound, OutOfMemory}
+use Rattle.run_steps.specs.{declared.outcome.Outcome.Outcome, declared.outcome.Outcome.TheVariants.Done, declared.outcome.Outcome.TheVariants.Missing, declared.outcome.Outcome.TheVariants.ReadFault, declared.outcome.Outcome.TheVariants.TooLong, declared.outcome.Outcome.TheVariants.WriteFault, declared.outcome.Outcome.TheVariants.BadRegion, declared.outcome.Outcome.TheVariants.Invalid, declared.outcome.Outcome.TheVariants.BadCertificate, declared.outcome.Outcome.TheVariants.OutOfMemory}
+pub use Rattle.run_steps.specs.declared.outcome.Outcome.TheVariants.{Usage, BadFeed, BadHierarchy, Unsound}
 
 abbrev pub status_of : Outcome → ℕ
 status_of Done = 0

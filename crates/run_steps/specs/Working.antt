@@ -1,22 +1,11 @@
 -- What the steps of a run answer: what was read, why it was not, and why a text was not written.
 use Rattle.std.specs.Prelude.{ℕ, List, Option, None, Some}
-use Rattle.plan_base.specs.Counts.{Rose}
-use Rattle.plan_base.specs.Shelves.{ShelfMeaning, HasRead}
-use Rattle.plan_base.specs.Sinks.{SinkMeaning, AppendedPart}
-use Rattle.plan_base.specs.declared.limits.Caps.{Caps}
-use Rattle.plan_base.specs.declared.reading.ReadFault.{ReadFault as ReadCause}
+use Rattle.plan_base.specs.{Rose, ShelfMeaning, HasRead, SinkMeaning, AppendedPart, Caps, ReadFault as ReadCause}
 use Rattle.plan_base.specs.declared.reading.ReadFault.TheVariants as cause
-use Rattle.mode_network.specs.NetworkLists.{NetworkLists}
-use Rattle.mode_network.specs.Rules.{IsNetwork}
-use Rattle.region_file.specs.declared.fault.RegionFault.{RegionFault}
+use Rattle.mode_network.specs.{NetworkLists.NetworkLists, IsNetwork}
+use Rattle.region_file.specs.{RegionFault, IsNoRegion}
 use Rattle.region_file.specs.declared.fault.RegionFault.TheVariants as no
-use Rattle.region_file.specs.Regions.{IsNoRegion}
-use Rattle.run_steps.specs.declared.outcome.FileRole.{FileRole}
-use Rattle.run_steps.specs.declared.outcome.FileRole.TheVariants.{Region}
-use Rattle.run_steps.specs.declared.outcome.Outcome.{Outcome}
-use Rattle.run_steps.specs.declared.outcome.Outcome.TheVariants.{Missing, ReadFault, TooLong, WriteFault, BadRegion, OutOfMemory}
-use Rattle.run_steps.specs.Regions.{SpellThis}
-use Rattle.run_steps.specs.Sayings.{most_of, IsAbsent, IsUnread}
+use Rattle.run_steps.specs.{declared.outcome.FileRole.FileRole, declared.outcome.FileRole.TheVariants.Region, declared.outcome.Outcome.Outcome, declared.outcome.Outcome.TheVariants.Missing, declared.outcome.Outcome.TheVariants.ReadFault, declared.outcome.Outcome.TheVariants.TooLong, declared.outcome.Outcome.TheVariants.WriteFault, declared.outcome.Outcome.TheVariants.BadRegion, declared.outcome.Outcome.TheVariants.OutOfMemory, Regions.SpellThis, Sayings.most_of, Sayings.IsAbsent, Sayings.IsUnread}
 
 -- how a run ends where a file can't be read
 abbrev pub outcome_of : FileRole → ReadCause → Outcome

@@ -1,29 +1,10 @@
 -- The road arcs join different road nodes of one mode, and ascend.
-use Rattle.std.proofs.Common.{◌≡◌, ℕ, pos, ◌+◌, ◌*◌, ◌<◌, ◌≤◌, ◌⊎◌, inl, inr, ⊎_elim, List, [], ◌∷◌, ◌++◌, length, nat_eq, nat_lt, Bool, true, false, not, Option, None, Some, refl, sym, ap, subst₂, ◌∙◌, arith, eqb-true}
-use Rattle.std.specs.Prelude.{◌==◌}
-use Rattle.std.specs.List.{All, position, position_or_len}
-use Rattle.std.specs.Ordering.{is_eq}
-use Rattle.std.proofs.lemmas.Bool.{and_from, eq-eqb, ltb-true}
-use Rattle.std.proofs.lemmas.Bool.Decides.{nat_tests}
-use Rattle.std.proofs.lemmas.List.Elements.{All-head, All-tail}
-use Rattle.std.proofs.lemmas.List.Sorted.{All-permutation, length_permutation}
-use Rattle.plan_base.specs.Modes.{number_of_mode}
-use Rattle.plan_base.specs.declared.modes.Mode.{Mode}
-use Rattle.plan_base.specs.declared.modes.Mode.TheVariants.{Foot, Bike, Car}
-use Rattle.plan_base.specs.declared.limits.Kind.TheVariants.{Arcs}
-use Rattle.mode_network.specs.NetworkLists.{mode_at}
-use Rattle.mode_network.specs.Rules.{AreInOrder, arc_cmp, end_or_order_fault, first_unsorted, is_same_mode, joins_modes}
-use Rattle.mode_network.specs.declared.nodes.Arc.{Arc}
-use Rattle.mode_network.specs.declared.nodes.Node.{Node}
+use Rattle.plan_base.proofs.Common.{◌≡◌, ℕ, pos, ◌+◌, ◌*◌, ◌<◌, ◌≤◌, ◌⊎◌, inl, inr, ⊎_elim, List, [], ◌∷◌, ◌++◌, length, nat_eq, nat_lt, Bool, true, false, not, Option, None, Some, refl, sym, ap, subst₂, ◌∙◌, arith, eqb-true, ◌==◌, All, position, position_or_len, is_eq, and_from, eq-eqb, ltb-true, nat_tests, All-head, All-tail, All-permutation, length_permutation}
+use Rattle.plan_base.specs.{number_of_mode, Mode, Foot, Bike, Car, Arcs}
+use Rattle.mode_network.specs.{mode_at, AreInOrder, arc_cmp, end_or_order_fault, first_unsorted, is_same_mode, joins_modes, Arc, Node}
 use Rattle.mode_network.proofs.RuleLemmas.{arcs_total, number_is_low}
-use Rattle.sample_city.specs.Corners.{corner, is_car_line}
-use Rattle.sample_city.specs.Roads.{along, arc_between, city_arcs, column_bases, corner_arcs, road_between, road_key, road_number, row_bases, street, streets, time_between}
-use Rattle.sample_city.specs.declared.corners.Corner.{Corner}
-use Rattle.sample_city.specs.declared.corners.Direction.TheVariants.{Row, Column}
-use Rattle.sample_city.specs.declared.streets.Bases.{Bases}
-use Rattle.sample_city.proofs.CornerLaws.{corners_rise}
-use Rattle.sample_city.proofs.RiseLaws.{Rise, rise_all, rise_append, rise_few, rise_if, rise_one, rise_sorted}
-use Rattle.sample_city.proofs.RoadLaws.{mode_of_number, number_same}
+use Rattle.sample_city.specs.{corner, is_car_line, along, arc_between, city_arcs, column_bases, corner_arcs, road_between, road_key, road_number, row_bases, street, streets, time_between, Corner, Row, Column, Bases}
+use Rattle.sample_city.proofs.{CornerLaws.corners_rise, RiseLaws.Rise, RiseLaws.rise_all, RiseLaws.rise_append, RiseLaws.rise_few, RiseLaws.rise_if, RiseLaws.rise_one, RiseLaws.rise_sorted, RoadLaws.mode_of_number, RoadLaws.number_same}
 
 -- arcs that tie have the same ends
 pub same_ends : (a b : Arc) → is_eq (arc_cmp a b) ≡ true → (a.from ≡ b.from) × (a.to ≡ b.to)

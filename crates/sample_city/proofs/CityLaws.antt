@@ -1,27 +1,8 @@
 -- The sample city keeps what a network's parts must: keys and durations.
-use Rattle.std.proofs.Common.{◌≡◌, ℕ, zero, suc, pos, ◌+◌, ◌^◌, ◌<◌, ◌≤◌, nat_lt, List, [], ◌∷◌, ◌++◌, length, map, get_or, Bool, true, false, Option, None, Some, if◌then◌else◌, refl, sym, ap, subst, ◌∙◌, arith, add-zero, zero-add}
-use Rattle.std.specs.List.{All, flat_map}
-use Rattle.std.proofs.lemmas.List.{length-map}
-use Rattle.std.proofs.lemmas.List.Elements.{All-append, All-cons, All-head, All-map, All-nil, All-tail}
-use Rattle.std.proofs.lemmas.List.Sorted.{All-permutation}
-use Rattle.std.proofs.lemmas.Nat.{mul-le}
-use Rattle.plan_base.specs.declared.modes.Mode.{Mode}
-use Rattle.plan_base.specs.declared.modes.Mode.TheVariants.{Foot, Bike, Car}
-use Rattle.plan_base.specs.declared.places.Place.{Place}
-use Rattle.mode_network.specs.NetworkLists.{NetworkLists}
-use Rattle.mode_network.specs.Rules.{AreParts, IsRoad, IsStop, IsSwitch}
-use Rattle.mode_network.specs.declared.nodes.Arc.{Arc}
-use Rattle.mode_network.specs.declared.nodes.Node.{Node}
-use Rattle.mode_network.specs.declared.nodes.NodeKey.{NodeKey}
-use Rattle.mode_network.specs.declared.nodes.NodeKey.TheVariants.{Road, Switch}
-use Rattle.sample_city.specs.Corners.{corner, corner_place, corners, has_cars, is_car_line, lines}
-use Rattle.sample_city.specs.Roads.{RoadNodeKey, along, arc_between, city_arcs, column_bases, corner_arcs, node_at, nodes_at, road_at, road_between, road_key, road_number, row_bases, street, streets, time_between}
-use Rattle.sample_city.specs.SampleCity.{IsSampleCity}
-use Rattle.sample_city.specs.Stops.{city_links, city_stop_links, city_stop_nodes, city_switch_links, city_switches, first_corner, last_corner, link_both}
-use Rattle.sample_city.specs.declared.corners.Corner.{Corner}
-use Rattle.sample_city.specs.declared.corners.Direction.TheVariants.{Row, Column}
-use Rattle.sample_city.specs.declared.stops.CityStop.{CityStop}
-use Rattle.sample_city.specs.declared.streets.Bases.{Bases}
+use Rattle.plan_base.proofs.Common.{◌≡◌, ℕ, zero, suc, pos, ◌+◌, ◌^◌, ◌<◌, ◌≤◌, nat_lt, List, [], ◌∷◌, ◌++◌, length, map, get_or, Bool, true, false, Option, None, Some, if◌then◌else◌, refl, sym, ap, subst, ◌∙◌, arith, add-zero, zero-add, All, flat_map, length-map, All-append, All-cons, All-head, All-map, All-nil, All-tail, All-permutation, mul-le}
+use Rattle.plan_base.specs.{Mode, Foot, Bike, Car, Place}
+use Rattle.mode_network.specs.{NetworkLists.NetworkLists, AreParts, IsRoad, IsStop, IsSwitch, Arc, Node, NodeKey, Road, Switch}
+use Rattle.sample_city.specs.{corner, corner_place, corners, has_cars, is_car_line, lines, RoadNodeKey, along, arc_between, city_arcs, column_bases, corner_arcs, node_at, nodes_at, road_at, road_between, road_key, road_number, row_bases, street, streets, time_between, IsSampleCity, city_links, city_stop_links, city_stop_nodes, city_switch_links, city_switches, first_corner, last_corner, link_both, Corner, Row, Column, CityStop, Bases}
 use Rattle.sample_city.proofs.RangeLaws.{below_end}
 
 -- what holds of all that each element gives, where the elements are such

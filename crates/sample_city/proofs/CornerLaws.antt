@@ -1,9 +1,7 @@
 -- What each corner gives rises, where it is tagged by the id of the corner.
-use Rattle.std.proofs.Common.{◌≡◌, ℕ, zero, suc, ◌+◌, ◌*◌, ◌<◌, ◌≤◌, List, map, subst, arith, add-mul, one-mul, le_refl}
-use Rattle.std.specs.List.{flat_map, range_with_len}
-use Rattle.std.proofs.lemmas.Grind.{flat_map-append}
-use Rattle.sample_city.specs.Corners.{corner, corners, lines}
-use Rattle.sample_city.specs.declared.corners.Corner.{Corner}
+use Rattle.plan_base.proofs.Common.{◌≡◌, ℕ, zero, suc, ◌+◌, ◌*◌, ◌<◌, ◌≤◌, List, map, subst, arith, le_refl, flat_map, range_with_len, flat_map-append}
+use Rattle.std.proofs.Common.{add-mul, one-mul}
+use Rattle.sample_city.specs.{corner, corners, lines, Corner}
 use Rattle.sample_city.proofs.RiseLaws.{Rise, rise_append}
 
 module _ {X : Type 0} (Tagged : ℕ → X → Type 0) (mark : ℕ → ℕ) (n : ℕ) (f : Corner → List X)

@@ -1,26 +1,10 @@
 -- The sample city keeps the rules of networks, and is within the full limits.
-use Rattle.std.proofs.Common.{◌≡◌, ℕ, ◌+◌, ◌*◌, ◌<◌, ◌≤◌, ◌++◌, length, length-append, nat_lt, false, None, refl, sym, ap, ◌∙◌, arith, le-ltb}
-use Rattle.std.proofs.lemmas.Nat.{mul-le}
-use Rattle.std.proofs.lemmas.Option.{none-some}
-use Rattle.plan_base.specs.CapsByKind.{cap_of}
-use Rattle.plan_base.specs.FullCaps.{full_cap_of}
-use Rattle.plan_base.specs.declared.limits.Caps.{Caps}
-use Rattle.plan_base.specs.declared.limits.Kind.{Kind}
-use Rattle.plan_base.specs.declared.limits.Kind.TheVariants.{Nodes, Stops, Arcs, Links, Trips, Calls}
-use Rattle.timetable_arcs.specs.TripRules.{calls_of}
-use Rattle.mode_network.specs.NetworkLists.{NetworkLists, nodes_of}
-use Rattle.mode_network.specs.Rules.{arcs_fault, count_fault, first_fault, first_unsorted, links_fault, name_cmp, node_cmp, trips_fault}
-use Rattle.mode_network.specs.declared.faults.NetFault.{NetFault}
-use Rattle.mode_network.specs.declared.faults.NetFault.TheVariants.{BadEnd, OutOfMemory, OutOfOrder, Table, TooMany}
-use Rattle.sample_city.specs.SampleCity.{IsCityRefusal, IsSampleCity}
-use Rattle.sample_city.specs.Corners.{stop_lines}
-use Rattle.sample_city.specs.Trips.{city_trips}
-use Rattle.sample_city.proofs.ArcLaws.{arcs_few, arcs_right}
-use Rattle.sample_city.proofs.CityLaws.{stop_nodes_long}
-use Rattle.sample_city.proofs.LinkLaws.{links_few, links_right}
-use Rattle.sample_city.proofs.RoadLaws.{roads_few, roads_in_order}
-use Rattle.sample_city.proofs.StopLaws.{both_switches, names_in_order, some_stop, stops_few}
-use Rattle.sample_city.proofs.TripLaws.{calls_few, lines_within, trips_few, trips_right}
+use Rattle.plan_base.proofs.Common.{◌≡◌, ℕ, ◌+◌, ◌*◌, ◌<◌, ◌≤◌, ◌++◌, length, length-append, nat_lt, false, None, refl, sym, ap, ◌∙◌, arith, le-ltb, mul-le, none-some}
+use Rattle.plan_base.specs.{cap_of, full_cap_of, Caps, Kind, Nodes, Stops, Arcs, Links, Trips, Calls}
+use Rattle.timetable_arcs.specs.{calls_of}
+use Rattle.mode_network.specs.{NetworkLists.NetworkLists, nodes_of, arcs_fault, count_fault, first_fault, first_unsorted, links_fault, name_cmp, node_cmp, trips_fault, NetFault, BadEnd, OutOfMemory, OutOfOrder, Table, TooMany}
+use Rattle.sample_city.specs.{IsCityRefusal, IsSampleCity, stop_lines, city_trips}
+use Rattle.sample_city.proofs.{ArcLaws.arcs_few, ArcLaws.arcs_right, CityLaws.stop_nodes_long, LinkLaws.links_few, LinkLaws.links_right, RoadLaws.roads_few, RoadLaws.roads_in_order, StopLaws.both_switches, StopLaws.names_in_order, StopLaws.some_stop, StopLaws.stops_few, TripLaws.calls_few, TripLaws.lines_within, TripLaws.trips_few, TripLaws.trips_right}
 
 module _ (n : ℕ) (network : NetworkLists) (size : n ≤ 300) (is : IsSampleCity n network) where
   square : n * n ≤ 90000

@@ -1,21 +1,10 @@
 -- The links join a road node and a stop or a switch, and ascend.
-use Rattle.std.proofs.Common.{◌≡◌, ℕ, pos, ◌+◌, ◌*◌, ◌<◌, ◌≤◌, ◌⊎◌, inl, inr, ⊎_elim, List, [], ◌∷◌, ◌++◌, length, nat_le, nat_lt, true, not, ◌&&◌, None, Some, if◌then◌else◌, refl, sym, ap, subst, ◌∙◌, arith, append_assoc}
-use Rattle.std.specs.List.{position}
-use Rattle.std.specs.List.Sorted.{IsPermutation}
-use Rattle.std.specs.Ordering.{is_eq}
-use Rattle.std.proofs.lemmas.Bool.Decides.{nat_tests}
-use Rattle.std.proofs.lemmas.List.Sorted.{All-permutation, IsPermutation-append_comm, IsPermutation-append_right, IsPermutation-trans, length_permutation}
-use Rattle.plan_base.specs.declared.limits.Kind.TheVariants.{Links}
-use Rattle.mode_network.specs.Rules.{AreInOrder, arc_cmp, end_or_order_fault, first_unsorted, joins_layers}
-use Rattle.mode_network.specs.declared.nodes.Arc.{Arc}
-use Rattle.mode_network.specs.declared.nodes.Node.{Node}
+use Rattle.plan_base.proofs.Common.{◌≡◌, ℕ, pos, ◌+◌, ◌*◌, ◌<◌, ◌≤◌, ◌⊎◌, inl, inr, ⊎_elim, List, [], ◌∷◌, ◌++◌, length, nat_le, nat_lt, true, not, ◌&&◌, None, Some, if◌then◌else◌, refl, sym, ap, subst, ◌∙◌, arith, append_assoc, position, IsPermutation, is_eq, nat_tests, All-permutation, IsPermutation-append_comm, IsPermutation-append_right, IsPermutation-trans, length_permutation}
+use Rattle.plan_base.specs.{Links}
+use Rattle.mode_network.specs.{AreInOrder, arc_cmp, end_or_order_fault, first_unsorted, joins_layers, Arc, Node}
 use Rattle.mode_network.proofs.RuleLemmas.{arcs_total}
-use Rattle.sample_city.specs.Roads.{arc_between, road_number}
-use Rattle.sample_city.specs.Stops.{city_links, city_stop_links, city_switch_links, first_corner, last_corner, link_both}
-use Rattle.sample_city.specs.declared.stops.CityStop.{CityStop}
-use Rattle.sample_city.proofs.ArcLaws.{arc_rises, position_none, same_ends}
-use Rattle.sample_city.proofs.RiseLaws.{Rise, rise_all, rise_append, rise_few, rise_sorted}
-use Rattle.sample_city.proofs.RoadLaws.{number_below, number_same}
+use Rattle.sample_city.specs.{arc_between, road_number, city_links, city_stop_links, city_switch_links, first_corner, last_corner, link_both, CityStop}
+use Rattle.sample_city.proofs.{ArcLaws.arc_rises, ArcLaws.position_none, ArcLaws.same_ends, RiseLaws.Rise, RiseLaws.rise_all, RiseLaws.rise_append, RiseLaws.rise_few, RiseLaws.rise_sorted, RoadLaws.number_below, RoadLaws.number_same}
 
 module _ (nodes : List Node) where
   -- a link between a place behind the road nodes and a road node, tagged by the place, the mode and the way

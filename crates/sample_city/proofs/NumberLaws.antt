@@ -1,8 +1,7 @@
 -- Numbers that are noted one after the other.
-use Rattle.std.proofs.Common.{◌≡◌, ℕ, Option, None, Some, refl, sym, ◌∙◌, ◌<◌, List, [], ◌∷◌, length, arith}
-use Rattle.mode_network.specs.declared.nodes.Node.{Node}
-use Rattle.std.specs.Option.{option_or}
-use Rattle.sample_city.specs.Roads.{RoadNodeKey, road_number_from}
+use Rattle.plan_base.proofs.Common.{◌≡◌, ℕ, Option, None, Some, refl, sym, ◌∙◌, ◌<◌, List, [], ◌∷◌, length, arith, option_or}
+use Rattle.mode_network.specs.{Node}
+use Rattle.sample_city.specs.{RoadNodeKey, road_number_from}
 
 nothing_noted : (old : Option ℕ) → option_or old None ≡ old
 nothing_noted None = refl

@@ -1,15 +1,7 @@
 -- Lists whose elements have tags that rise.
-use Rattle.std.proofs.Common.{◌≡◌, ℕ, suc, ◌+◌, ◌<◌, ◌≤◌, List, [], ◌∷◌, ◌++◌, length, Bool, true, false, None, if◌then◌else◌, refl, sym, ap, ◌∙◌, arith}
-use Rattle.std.specs.Cmp.{IsTotalOrder}
-use Rattle.std.specs.List.{All, AllByRecursion, IsDistinct}
-use Rattle.std.specs.List.Sorted.{IsPermutation, IsSorted}
-use Rattle.std.specs.Ordering.{is_eq, is_lt, ordering_reverse}
-use Rattle.std.specs.declared.cmp.Ordering.{Ordering}
-use Rattle.std.specs.declared.cmp.Ordering.TheVariants.{Less, Equal, Greater}
-use Rattle.std.proofs.lemmas.Bool.{false≢true}
-use Rattle.std.proofs.lemmas.List.Elements.{All-cons, All-nil}
-use Rattle.std.proofs.lemmas.Map.Keys.{IsDistinct-IsPermutation}
-use Rattle.mode_network.specs.Rules.{first_unsorted}
+use Rattle.plan_base.proofs.Common.{◌≡◌, ℕ, suc, ◌+◌, ◌<◌, ◌≤◌, List, [], ◌∷◌, ◌++◌, length, Bool, true, false, None, if◌then◌else◌, refl, sym, ap, ◌∙◌, arith, IsTotalOrder, All, AllByRecursion, IsPermutation, IsSorted, is_eq, is_lt, ordering_reverse, Ordering, Less, Equal, Greater, false≢true, All-cons, All-nil, IsDistinct-IsPermutation}
+use Rattle.std.specs.List.{IsDistinct}
+use Rattle.mode_network.specs.{first_unsorted}
 
 module _ {X : Type 0} (Tagged : ℕ → X → Type 0) where
   -- the tags are `low` or more and below `high`, and each is above the one before it

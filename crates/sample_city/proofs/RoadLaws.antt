@@ -1,27 +1,11 @@
 -- The road nodes ascend, and a number is that of one of them.
-use Rattle.std.proofs.Common.{◌≡◌, ℕ, pos, ◌+◌, ◌*◌, ◌<◌, ◌≤◌, List, [], ◌∷◌, ◌++◌, length, get_or, nat_eq, true, Option, None, Some, refl, sym, ap, ◌∙◌, arith, eqb-true, ⊎_elim}
-use Rattle.std.specs.Prelude.{option_and_then}
-use Rattle.std.specs.Ordering.{int_eq, is_lt}
-use Rattle.std.proofs.lemmas.Bool.{and_parts, cases_order, false≢true}
-use Rattle.std.proofs.lemmas.Bool.Decides.{Decides-int_eq, nat_tests}
+use Rattle.plan_base.proofs.Common.{◌≡◌, ℕ, pos, ◌+◌, ◌*◌, ◌<◌, ◌≤◌, List, [], ◌∷◌, ◌++◌, length, get_or, nat_eq, true, Option, None, Some, refl, sym, ap, ◌∙◌, arith, eqb-true, ⊎_elim, option_and_then, int_eq, is_lt, and_parts, cases_order, false≢true, Decides-int_eq, nat_tests, position-Some, none-some, slice_get_cases}
 use Rattle.std.proofs.lemmas.Iterator.Adapters.{position_from-zero}
-use Rattle.std.proofs.lemmas.List.Quantifiers.{position-Some}
-use Rattle.std.proofs.lemmas.Option.{none-some, slice_get_cases}
-use Rattle.plan_base.specs.Modes.{number_of_mode}
-use Rattle.plan_base.specs.declared.modes.Mode.{Mode}
-use Rattle.plan_base.specs.declared.modes.Mode.TheVariants.{Foot, Bike, Car}
-use Rattle.plan_base.specs.declared.places.Place.{Place}
-use Rattle.mode_network.specs.NetworkLists.{mode_at, mode_of}
-use Rattle.mode_network.specs.Rules.{first_unsorted, node_cmp}
-use Rattle.mode_network.specs.declared.nodes.Node.{Node}
-use Rattle.mode_network.specs.declared.nodes.NodeKey.{NodeKey}
-use Rattle.mode_network.specs.declared.nodes.NodeKey.TheVariants.{Road, Stop, Switch}
+use Rattle.plan_base.specs.{number_of_mode, Mode, Foot, Bike, Car, Place}
+use Rattle.mode_network.specs.{mode_at, mode_of, first_unsorted, node_cmp, Node, NodeKey, Road, Stop, Switch}
 use Rattle.mode_network.proofs.RuleLemmas.{number_is_low}
-use Rattle.sample_city.specs.Corners.{corner, corner_place, has_cars}
-use Rattle.sample_city.specs.Roads.{city_roads, is_key_of, node_at, nodes_at, road_at, road_number}
-use Rattle.sample_city.specs.declared.corners.Corner.{Corner}
-use Rattle.sample_city.proofs.CornerLaws.{corners_rise}
-use Rattle.sample_city.proofs.RiseLaws.{Rise, rise_append, rise_few, rise_if, rise_in_order, rise_one}
+use Rattle.sample_city.specs.{corner, corner_place, has_cars, city_roads, is_key_of, node_at, nodes_at, road_at, road_number, Corner}
+use Rattle.sample_city.proofs.{CornerLaws.corners_rise, RiseLaws.Rise, RiseLaws.rise_append, RiseLaws.rise_few, RiseLaws.rise_if, RiseLaws.rise_in_order, RiseLaws.rise_one}
 
 -- a road node, tagged by its id and its mode
 record IsRoadBy (tag : ℕ) (node : Node) : Type 0 where

@@ -1,31 +1,11 @@
 -- The names of stops ascend, there is one where two lines have stops, and both switches are there.
-use Rattle.std.proofs.Common.{◌≡◌, ℕ, zero, suc, pos, ◌+◌, ◌*◌, ◌%◌, ◌^◌, ◌<◌, ◌≤◌, List, [], ◌∷◌, ◌++◌, length, get_or, map, decimal, neg_ℤ, int_le, Bool, true, false, T, Option, None, Some, if◌then◌else◌, is_some, refl, sym, ap, subst, ◌∙◌, arith, append_assoc, le-leb}
-use Rattle.std.specs.Prelude.{Contains, option_and_then, option_map, option_to_list}
-use Rattle.std.specs.List.{All}
-use Rattle.std.specs.List.Sorted.{IsPermutation, IsSorted}
-use Rattle.std.specs.Ordering.{is_eq, is_lt}
-use Rattle.std.specs.declared.cmp.Ordering.{Ordering}
-use Rattle.std.proofs.lemmas.Bool.{false≢true}
-use Rattle.std.proofs.lemmas.Cmp.{nat_list_cmp_total, on_total}
-use Rattle.std.proofs.lemmas.Fmt.{decimal_by_steps, decimal_digit, decimal_injective}
-use Rattle.std.proofs.lemmas.List.Elements.{All-cons, All-head, All-nil, All-push, All-tail, Contains-append_left, Contains-append_right}
-use Rattle.std.proofs.lemmas.List.Concat.{length-flat_map}
-use Rattle.std.proofs.lemmas.List.Sorted.{length_permutation}
-use Rattle.std.proofs.lemmas.List.Sums.{get_or-le-sum_by}
-use Rattle.std.proofs.lemmas.Map.Text.{is_eq-slice_cmp}
-use Rattle.std.proofs.lemmas.Slice.Eq.{bytes_eq-Decides}
-use Rattle.plain_texts.specs.Names.{is_name, name_of}
-use Rattle.plan_base.specs.PlaceOf.{place_of, shown}
-use Rattle.plan_base.specs.declared.places.Place.{Place}
-use Rattle.mode_network.specs.Rules.{first_unsorted, name_cmp, node_cmp}
-use Rattle.mode_network.specs.declared.nodes.NodeKey.TheVariants.{Switch}
-use Rattle.sample_city.specs.Corners.{corner, corner_place, corners, lines}
-use Rattle.sample_city.specs.Roads.{node_at}
-use Rattle.sample_city.specs.Stops.{city_stops, city_switches, corner_stop, corner_text, first_corner, has_stop, last_corner, stop_in}
-use Rattle.sample_city.specs.declared.corners.Corner.{Corner}
-use Rattle.sample_city.specs.declared.stops.CityStop.{CityStop}
-use Rattle.sample_city.proofs.CornerLaws.{corners_rise}
-use Rattle.sample_city.proofs.RiseLaws.{Rise, rise_few, rise_one, rise_sorted}
+use Rattle.plan_base.proofs.Common.{◌≡◌, ℕ, zero, suc, pos, ◌+◌, ◌*◌, ◌%◌, ◌^◌, ◌<◌, ◌≤◌, List, [], ◌∷◌, ◌++◌, length, get_or, map, decimal, neg_ℤ, int_le, Bool, true, false, T, Option, None, Some, if◌then◌else◌, is_some, refl, sym, ap, subst, ◌∙◌, arith, append_assoc, le-leb, Contains, option_and_then, option_map, option_to_list, All, IsPermutation, IsSorted, is_eq, is_lt, Ordering, false≢true, nat_list_cmp_total, on_total, decimal_digit, All-cons, All-head, All-nil, All-push, All-tail, Contains-append_left, Contains-append_right, length-flat_map, length_permutation, get_or-le-sum_by, is_eq-slice_cmp, bytes_eq-Decides}
+use Rattle.std.proofs.lemmas.Fmt.{decimal_by_steps, decimal_injective}
+use Rattle.plain_texts.specs.{is_name, name_of}
+use Rattle.plan_base.specs.{place_of, shown, Place}
+use Rattle.mode_network.specs.{first_unsorted, name_cmp, node_cmp, Switch}
+use Rattle.sample_city.specs.{corner, corner_place, corners, lines, node_at, city_stops, city_switches, corner_stop, corner_text, first_corner, has_stop, last_corner, stop_in, Corner, CityStop}
+use Rattle.sample_city.proofs.{CornerLaws.corners_rise, RiseLaws.Rise, RiseLaws.rise_few, RiseLaws.rise_one, RiseLaws.rise_sorted}
 
 -- ---- names
 

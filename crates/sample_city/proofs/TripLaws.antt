@@ -1,28 +1,9 @@
 -- The trips keep the rules of timetables.
-use Rattle.std.proofs.Common.{◌≡◌, ℕ, ◌+◌, ◌*◌, ◌<◌, ◌≤◌, List, [], ◌∷◌, ◌++◌, length, length-append, map, nat_eq, nat_le, nat_lt, Bool, true, false, Option, None, Some, if◌then◌else◌, unwrap_or, refl, ap, ◌∙◌, arith, lt-ltb, le-leb, leb-true}
-use Rattle.std.specs.Prelude.{option_to_list, position}
-use Rattle.std.specs.List.{All, flat_map, list_all}
-use Rattle.std.proofs.lemmas.Bool.{and_from}
-use Rattle.std.proofs.lemmas.List.{length-map}
-use Rattle.std.proofs.lemmas.List.Concat.{length-flat_map}
-use Rattle.std.proofs.lemmas.List.Elements.{All-append, All-cons, All-head, All-map, All-nil, All-tail, All-weaker}
-use Rattle.std.proofs.lemmas.List.FromFn.{length-range_with_len}
-use Rattle.std.proofs.lemmas.List.Quantifiers.{position-Some}
-use Rattle.std.proofs.lemmas.List.Sums.{count_by-le-length, length-filter, sum_by-le}
-use Rattle.std.proofs.lemmas.Nat.{mul-le}
-use Rattle.plain_texts.specs.Names.{name_of}
-use Rattle.timetable_arcs.specs.TripRules.{calls_of, goes_on, is_early, is_trip, trips_fault, unknown_stop}
-use Rattle.timetable_arcs.specs.Trips.{TripLists}
-use Rattle.timetable_arcs.specs.declared.trips.Call.{Call}
-use Rattle.sample_city.specs.Corners.{crossing, is_stop_line, lines, stop_lines}
-use Rattle.sample_city.specs.Stops.{corner_text}
-use Rattle.sample_city.specs.Trips.{buses, calls_along, city_trips, corner_stop_number, fleet_trips, line_stops, line_trips, stop_place, trams, trip_along, trip_in}
-use Rattle.sample_city.specs.declared.corners.Corner.{Corner}
-use Rattle.sample_city.specs.declared.stops.CityStop.{CityStop}
-use Rattle.sample_city.specs.declared.trips.Fleet.{Fleet}
-use Rattle.sample_city.proofs.ArcLaws.{position_none}
-use Rattle.sample_city.proofs.CityLaws.{flat_map-if}
-use Rattle.sample_city.proofs.RangeLaws.{below_end}
+use Rattle.plan_base.proofs.Common.{◌≡◌, ℕ, ◌+◌, ◌*◌, ◌<◌, ◌≤◌, List, [], ◌∷◌, ◌++◌, length, length-append, map, nat_eq, nat_le, nat_lt, Bool, true, false, Option, None, Some, if◌then◌else◌, unwrap_or, refl, ap, ◌∙◌, arith, lt-ltb, le-leb, leb-true, option_to_list, position, All, flat_map, list_all, and_from, length-map, length-flat_map, All-append, All-cons, All-head, All-map, All-nil, All-tail, All-weaker, length-range_with_len, position-Some, count_by-le-length, length-filter, sum_by-le, mul-le}
+use Rattle.plain_texts.specs.{name_of}
+use Rattle.timetable_arcs.specs.{calls_of, goes_on, is_early, is_trip, trips_fault, unknown_stop, TripLists, Call}
+use Rattle.sample_city.specs.{crossing, is_stop_line, lines, stop_lines, corner_text, buses, calls_along, city_trips, corner_stop_number, fleet_trips, line_stops, line_trips, stop_place, trams, trip_along, trip_in, Corner, CityStop, Fleet}
+use Rattle.sample_city.proofs.{ArcLaws.position_none, CityLaws.flat_map-if, RangeLaws.below_end}
 
 -- ---- calls
 

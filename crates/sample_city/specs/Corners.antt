@@ -1,11 +1,8 @@
 -- The corners of the sample city: a grid of n rows and n columns.
-use Rattle.std.specs.Prelude.{ℕ, pos, ◌+◌, ◌*◌, ◌%◌, List, filter, map, nat_eq, Bool, ◌||◌, Option}
-use Rattle.std.specs.List.{flat_map, range_with_len}
-use Rattle.plan_base.specs.PlaceOf.{place_of}
-use Rattle.plan_base.specs.declared.places.Place.{Place}
-use Rattle.sample_city.specs.declared.corners.Corner.{Corner}
-use Rattle.sample_city.specs.declared.corners.Direction.{Direction}
-use Rattle.sample_city.specs.declared.corners.Direction.TheVariants.{Row, Column}
+use Rattle.std.specs.Prelude.{ℕ, pos, ◌+◌, ◌*◌, ◌%◌, List, filter, map, nat_eq, Bool, ◌||◌, Option, flat_map}
+use Rattle.std.specs.List.{range_with_len}
+use Rattle.plan_base.specs.{place_of, Place}
+pub use Rattle.sample_city.specs.{declared.corners.Corner.Corner, declared.corners.Direction.Direction, declared.corners.Direction.TheVariants.Row, declared.corners.Direction.TheVariants.Column}
 
 -- the rows, and the columns, from 0
 abbrev pub lines : ℕ → List ℕ

@@ -1,20 +1,11 @@
 -- The road nodes of the sample city, and the road arcs between neighbouring corners.
-use Rattle.std.specs.Prelude.{ℕ, ℤ, pos, ◌+◌, ◌*◌, ◌%◌, List, [], ◌++◌, nat_eq, nat_lt, Bool, false, ◌&&◌, Option, option_to_list, option_and_then, option_map, if◌then◌else◌}
-use Rattle.std.specs.List.{flat_map, position_from}
+use Rattle.std.specs.Prelude.{ℕ, ℤ, pos, ◌+◌, ◌*◌, ◌%◌, List, [], ◌++◌, nat_eq, nat_lt, Bool, false, ◌&&◌, Option, option_to_list, option_and_then, option_map, if◌then◌else◌, flat_map}
+use Rattle.std.specs.List.{position_from}
 use Rattle.std.specs.Ordering.{int_eq}
-use Rattle.plan_base.specs.Modes.{number_of_mode}
-use Rattle.plan_base.specs.declared.modes.Mode.{Mode}
-use Rattle.plan_base.specs.declared.modes.Mode.TheVariants.{Foot, Bike, Car}
-use Rattle.plan_base.specs.declared.places.Place.{Place}
-use Rattle.mode_network.specs.declared.nodes.Arc.{Arc}
-use Rattle.mode_network.specs.declared.nodes.Node.{Node}
-use Rattle.mode_network.specs.declared.nodes.NodeKey.{NodeKey}
-use Rattle.mode_network.specs.declared.nodes.NodeKey.TheVariants.{Road, Stop, Switch}
-use Rattle.sample_city.specs.Corners.{corner_place, corners, has_cars, is_car_line}
-use Rattle.sample_city.specs.declared.corners.Corner.{Corner}
-use Rattle.sample_city.specs.declared.corners.Direction.{Direction}
-use Rattle.sample_city.specs.declared.corners.Direction.TheVariants.{Row, Column}
-use Rattle.sample_city.specs.declared.streets.Bases.{Bases}
+use Rattle.plan_base.specs.{number_of_mode, Mode, Foot, Bike, Car, Place}
+use Rattle.mode_network.specs.{Arc, Node, NodeKey, Road, Stop, Switch}
+use Rattle.sample_city.specs.{Corners.corner_place, Corners.corners, Corners.has_cars, Corners.is_car_line, declared.corners.Corner.Corner, declared.corners.Direction.Direction, declared.corners.Direction.TheVariants.Row, declared.corners.Direction.TheVariants.Column}
+pub use Rattle.sample_city.specs.declared.streets.Bases.{Bases}
 
 -- ---- nodes
 

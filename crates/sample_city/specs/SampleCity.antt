@@ -1,16 +1,9 @@
 -- The sample city.
-use Rattle.std.specs.Prelude.{◌≡◌, ℕ, List, length, map}
-use Rattle.std.specs.List.Sorted.{IsPermutation, IsSorted}
-use Rattle.service_days.specs.Days.{plain_days}
-use Rattle.plan_base.specs.declared.limits.Caps.{Caps}
-use Rattle.mode_network.specs.NetworkLists.{NetworkLists}
-use Rattle.mode_network.specs.Rules.{AreInOrder, IsFaultOf, name_cmp}
-use Rattle.mode_network.specs.declared.faults.NetFault.{NetFault}
-use Rattle.mode_network.specs.declared.faults.NetFault.TheVariants.{OutOfMemory}
-use Rattle.sample_city.specs.Roads.{city_arcs, city_roads, road_number}
-use Rattle.sample_city.specs.Stops.{city_links, city_stop_nodes, city_stops, city_switches}
-use Rattle.sample_city.specs.Trips.{city_trips}
-use Rattle.sample_city.specs.declared.stops.CityStop.{CityStop}
+use Rattle.std.specs.Prelude.{◌≡◌, ℕ, List, length, map, IsPermutation, IsSorted}
+use Rattle.service_days.specs.{plain_days}
+use Rattle.plan_base.specs.{Caps}
+use Rattle.mode_network.specs.{NetworkLists.NetworkLists, AreInOrder, IsFaultOf, name_cmp, NetFault, OutOfMemory}
+use Rattle.sample_city.specs.{Roads.city_arcs, Roads.city_roads, Roads.road_number, Stops.city_links, Stops.city_stop_nodes, Stops.city_stops, Stops.city_switches, Trips.city_trips, declared.stops.CityStop.CityStop}
 
 -- A network is this city: its stops ascend by their names, and its arcs and links by their ends.
 pub record IsSampleCity (n : ℕ) (network : NetworkLists) : Type 0 where

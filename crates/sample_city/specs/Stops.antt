@@ -1,16 +1,10 @@
 -- The stops and the switches of the sample city, and their links.
-use Rattle.std.specs.Prelude.{decimal, ℕ, pos, ◌+◌, ◌-◌, List, [], ◌∷◌, ◌++◌, length, codes, Bool, ◌&&◌, Option, None, Some, option_to_list, option_and_then, option_map, if◌then◌else◌}
-use Rattle.std.specs.List.{flat_map}
-use Rattle.plain_texts.specs.Names.{name_of}
-use Rattle.plan_base.specs.declared.modes.Mode.TheVariants.{Foot, Bike}
-use Rattle.plan_base.specs.declared.places.Place.{Place}
-use Rattle.mode_network.specs.declared.nodes.Arc.{Arc}
-use Rattle.mode_network.specs.declared.nodes.Node.{Node}
-use Rattle.mode_network.specs.declared.nodes.NodeKey.TheVariants.{Stop, Switch}
-use Rattle.sample_city.specs.Corners.{corner, corner_place, corners, is_stop_line}
-use Rattle.sample_city.specs.Roads.{RoadNodeKey, arc_between, node_at, road_key}
-use Rattle.sample_city.specs.declared.corners.Corner.{Corner}
-use Rattle.sample_city.specs.declared.stops.CityStop.{CityStop}
+use Rattle.std.specs.Prelude.{decimal, ℕ, pos, ◌+◌, ◌-◌, List, [], ◌∷◌, ◌++◌, length, codes, Bool, ◌&&◌, Option, None, Some, option_to_list, option_and_then, option_map, if◌then◌else◌, flat_map}
+use Rattle.plain_texts.specs.{name_of}
+use Rattle.plan_base.specs.{Foot, Bike, Place}
+use Rattle.mode_network.specs.{Arc, Node, Stop, Switch}
+use Rattle.sample_city.specs.{Corners.corner, Corners.corner_place, Corners.corners, Corners.is_stop_line, Roads.RoadNodeKey, Roads.arc_between, Roads.node_at, Roads.road_key, declared.corners.Corner.Corner}
+pub use Rattle.sample_city.specs.declared.stops.CityStop.{CityStop}
 
 -- ---- stops
 

@@ -1,16 +1,9 @@
 -- The trips of the sample city.
-use Rattle.std.specs.Prelude.{ℕ, ◌+◌, ◌*◌, List, [], ◌∷◌, ◌++◌, length, map, nat_eq, nat_le, true, Option, option_to_list, option_map, unwrap_or, if◌then◌else◌, position}
-use Rattle.std.specs.List.{flat_map}
-use Rattle.plain_texts.specs.Names.{name_of}
-use Rattle.timetable_arcs.specs.Trips.{TripLists}
-use Rattle.timetable_arcs.specs.declared.trips.Call.{Call}
-use Rattle.sample_city.specs.Corners.{crossing, lines, stop_lines}
-use Rattle.sample_city.specs.Stops.{corner_text}
-use Rattle.sample_city.specs.declared.corners.Corner.{Corner}
-use Rattle.sample_city.specs.declared.corners.Direction.{Direction}
-use Rattle.sample_city.specs.declared.corners.Direction.TheVariants.{Row, Column}
-use Rattle.sample_city.specs.declared.stops.CityStop.{CityStop}
-use Rattle.sample_city.specs.declared.trips.Fleet.{Fleet}
+use Rattle.std.specs.Prelude.{ℕ, ◌+◌, ◌*◌, List, [], ◌∷◌, ◌++◌, length, map, nat_eq, nat_le, true, Option, option_to_list, option_map, unwrap_or, if◌then◌else◌, position, flat_map}
+use Rattle.plain_texts.specs.{name_of}
+use Rattle.timetable_arcs.specs.{TripLists, Call}
+use Rattle.sample_city.specs.{Corners.crossing, Corners.lines, Corners.stop_lines, Stops.corner_text, declared.corners.Corner.Corner, declared.corners.Direction.Direction, declared.corners.Direction.TheVariants.Row, declared.corners.Direction.TheVariants.Column, declared.stops.CityStop.CityStop}
+pub use Rattle.sample_city.specs.declared.trips.Fleet.{Fleet}
 
 -- the number of the stop at a corner is its place among the stops
 abbrev pub stop_place : List CityStop → Corner → Option ℕ

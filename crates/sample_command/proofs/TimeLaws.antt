@@ -1,24 +1,15 @@
 -- What is found for a line is its time, times of one line more, and that there is one time at most for each line.
-use Rattle.std.proofs.Common.{◌≡◌, ℕ, ◌+◌, ◌-◌, ◌<◌, ◌≤◌, ◌^◌, List, [], ◌∷◌, ◌++◌, length, Option, None, Some, Ok, Err, refl, sym, ap, ap₂, subst, inl, inr, arith}
-use Rattle.std.specs.Prelude.{unwrap_or, IfSome}
-use Rattle.std.proofs.lemmas.List.FromFn.{map-range_with_len_more}
-use Rattle.std.proofs.lemmas.List.Sums.{sum_by-append}
-use Rattle.product_search.specs.declared.label.Label.{Label}
-use Rattle.mode_expression.specs.Form.{form_of}
-use Rattle.hierarchy.specs.Lists.{HierarchyLists}
-use Rattle.mode_network.specs.NetworkLists.{NetworkLists}
-use Rattle.mode_network.specs.Rules.{IsNetwork}
-use Rattle.mode_network.specs.Journeys.{Route}
-use Rattle.journey.specs.declared.query.Query.{Query}
-use Rattle.journey.specs.Best.{Asked, Asks, HasNone, IsBest, asked_by}
-use Rattle.journey.specs.Queries.{IsQuery}
+use Rattle.plan_base.proofs.Common.{◌≡◌, ℕ, ◌+◌, ◌-◌, ◌<◌, ◌≤◌, ◌^◌, List, [], ◌∷◌, ◌++◌, length, Option, None, Some, Ok, Err, refl, sym, ap, ap₂, subst, inl, inr, arith, unwrap_or, IfSome, map-range_with_len_more, sum_by-append}
+use Rattle.product_search.specs.{Label}
+use Rattle.mode_expression.specs.{form_of}
+use Rattle.hierarchy.specs.{HierarchyLists}
+use Rattle.mode_network.specs.{NetworkLists.NetworkLists, IsNetwork, Route}
+use Rattle.journey.specs.{Query, Asked, Asks, HasNone, IsBest, asked_by, IsQuery}
 use Rattle.journey.proofs.ReadingLemmas.{reading_is_unique}
-use Rattle.certificate.specs.Valid.{IsBestResult}
-use Rattle.planning.specs.Plans.{AreTheLabels, IsCertifiable, IsPlan, route_of}
-use Rattle.planning.specs.Settled.{IsLabelCount, IsSettledCount, Settled}
+use Rattle.certificate.specs.{IsBestResult}
+use Rattle.planning.specs.{AreTheLabels, IsCertifiable, IsPlan, route_of, IsLabelCount, IsSettledCount, Settled.Settled}
 use Rattle.planning.proofs.PlanLemmas.{plan_proves}
-use Rattle.sample_command.specs.Queries.{lines_before, query_line}
-use Rattle.sample_command.specs.Times.{AreTimes, IsTravelTime, Takes, labels_counted, time_from, total_time}
+use Rattle.sample_command.specs.{lines_before, query_line, AreTimes, IsTravelTime, Takes, labels_counted, time_from, total_time}
 
 -- ---- one line more
 

@@ -1,15 +1,12 @@
 -- What the command `sample` writes.
 use Rattle.std.specs.Prelude.{◌≡◌, ℕ, List, ◌++◌, Option, Some}
-use Rattle.mode_network.specs.NetworkLists.{NetworkLists}
-use Rattle.mode_network.specs.Rules.{IsNetwork}
-use Rattle.hierarchy.specs.Lists.{HierarchyLists}
-use Rattle.contractor.specs.Contracted.{IsContractedTo}
-use Rattle.sample_city.specs.SampleCity.{IsSampleCity}
+use Rattle.mode_network.specs.{NetworkLists.NetworkLists, IsNetwork}
+use Rattle.hierarchy.specs.{HierarchyLists}
+use Rattle.contractor.specs.{IsContractedTo}
+use Rattle.sample_city.specs.{IsSampleCity}
 use Rattle.planning.specs.Settled.{Settled}
-use Rattle.run_steps.specs.Sayings.{Saying, WritesText}
-use Rattle.sample_command.specs.Queries.{sampled_queries}
-use Rattle.sample_command.specs.Texts.{city_text, times_text}
-use Rattle.sample_command.specs.Times.{AreTimes}
+use Rattle.run_steps.specs.{Saying, WritesText}
+use Rattle.sample_command.specs.{Queries.sampled_queries, Texts.city_text, Texts.times_text, Times.AreTimes}
 
 -- so many labels the searches for the queries have together, over a hierarchy that contraction makes of the whole of the city
 pub record HasLabels (n : ℕ) (city : NetworkLists) (count : ℕ) : Type 0 where

@@ -1,7 +1,7 @@
 -- The lines of the summary.
 use Rattle.std.specs.Prelude.{decimal, ℕ, List, ◌++◌, length, codes, Option}
-use Rattle.plain_texts.specs.Lines.{with_feed}
-use Rattle.mode_network.specs.NetworkLists.{NetworkLists, nodes_of}
+use Rattle.plain_texts.specs.{with_feed}
+use Rattle.mode_network.specs.{NetworkLists.NetworkLists, nodes_of}
 use Rattle.sample_command.specs.Times.{equal, journeys, total_time, without}
 
 -- a line with a word and a number

@@ -1,13 +1,8 @@
 -- How long best journeys take.
-use Rattle.std.specs.Prelude.{◌≡◌, ℕ, ◌-◌, ◌⊎◌, List, [], ◌∷◌, nat_eq, Bool, true, false, Option, Some, None, unwrap_or, is_some, option_map, count_by, sum_by}
-use Rattle.std.specs.List.{zip}
-use Rattle.std.specs.Option.{is_none}
-use Rattle.hierarchy.specs.Lists.{HierarchyLists}
-use Rattle.mode_network.specs.NetworkLists.{NetworkLists}
-use Rattle.mode_network.specs.Journeys.{Route}
-use Rattle.journey.specs.declared.fault.QueryFault.{QueryFault}
-use Rattle.journey.specs.Queries.{IsRefused}
-use Rattle.journey.specs.Best.{Asked, Asks, HasNone, IsBest}
+use Rattle.std.specs.Prelude.{◌≡◌, ℕ, ◌-◌, ◌⊎◌, List, [], ◌∷◌, nat_eq, Bool, true, false, Option, Some, None, unwrap_or, is_some, option_map, count_by, sum_by, zip, is_none}
+use Rattle.hierarchy.specs.{HierarchyLists}
+use Rattle.mode_network.specs.{NetworkLists.NetworkLists, Route}
+use Rattle.journey.specs.{QueryFault, IsRefused, Asked, Asks, HasNone, IsBest}
 
 -- a best journey for the line arrives so long after the departure that is asked for, in milliseconds
 pub record Takes (n : NetworkLists) (line : List ℕ) (ms : ℕ) : Type 0 where

@@ -1,6 +1,6 @@
 -- Words collapsed by hand.
-use Rattle.std.proofs.Common.{◌≡◌, [], ◌∷◌, refl}
-use Rattle.search_laws.specs.Collapse.{collapse}
+use Rattle.plan_base.proofs.Common.{◌≡◌, [], ◌∷◌, refl}
+use Rattle.search_laws.specs.{collapse}
 
 one_road : collapse (0 ∷ 0 ∷ 0 ∷ []) ≡ 0 ∷ []
 one_road = refl

@@ -1,8 +1,6 @@
 -- The first place where something fails: a test that fails there, and that there is one such place.
-use Rattle.std.proofs.Common.{◌≡◌, ℕ, ◌<◌, Bool, false, inl, inr, sym, ◌∙◌, arith}
-use Rattle.std.specs.Prelude.{IsTrue, ◌↔◌}
-use Rattle.std.proofs.lemmas.Bool.{false≢true, cases_lt}
-use Rattle.search_laws.specs.Firsts.{HoldsBelow, FailsFirstAt}
+use Rattle.plan_base.proofs.Common.{◌≡◌, ℕ, ◌<◌, Bool, false, inl, inr, sym, ◌∙◌, arith, IsTrue, ◌↔◌, false≢true, cases_lt}
+use Rattle.search_laws.specs.{HoldsBelow, FailsFirstAt}
 
 -- what a test decides fails where the test does
 pub fails_here : (n : ℕ) (P : ℕ → Type 0) (k : ℕ) (b : Bool) → k < n → (IsTrue b ↔ P k) → b ≡ false → HoldsBelow k P → FailsFirstAt n P k

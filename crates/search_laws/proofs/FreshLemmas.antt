@@ -1,18 +1,6 @@
 -- Laws of what a search is given where it was given rides of the same runs before.
-use Rattle.std.proofs.Common.{◌≡◌, ℕ, ◌+◌, ◌≤◌, Bool, true, false, not, nat_eq, cond, Some, None, inl, inr, List, [], ◌∷◌, ◌++◌, map, zero, suc, refl, sym, ◌∙◌, ap, subst, append_assoc, arith}
-use Rattle.std.specs.Prelude.{◌⊎◌, ◌^◌, Option, All, Contains, IsBitSet}
-use Rattle.std.specs.Int.Bits.{bit_and}
-use Rattle.std.proofs.lemmas.Bool.{false≢true, eqb-true}
-use Rattle.std.proofs.lemmas.List.{length-map, get_or-map}
-use Rattle.std.proofs.lemmas.List.Elements.{All-append, All-nil, All-cons, All-map, All-contains, All-contains_itself, All-weaker, Contains-append_left, Contains-append_right, Contains-append_cases}
-use Rattle.search_laws.specs.GraphLaws.{GraphMeaning}
-use Rattle.search_laws.specs.Ways.{is_open, moving_letters, way_if, way_at, ways_from}
-use Rattle.search_laws.specs.declared.graph.GraphArc.{GraphArc}
-use Rattle.search_laws.specs.declared.graph.Visit.{Visit}
-use Rattle.search_laws.specs.declared.graph.Way.{Way}
-use Rattle.search_laws.specs.declared.given.GivenRun.{GivenRun}
-use Rattle.search_laws.specs.declared.given.GivenRuns.{GivenRuns}
-use Rattle.search_laws.specs.Fresh.{IsRunNoted, IsAsGood, HasAsGood, RunRides, WasGiven, HasAsGoodOrGiven, AreFresh, AddsFresh, StandsStill, AreMoving, AddsMoving}
+use Rattle.plan_base.proofs.Common.{◌≡◌, ℕ, ◌+◌, ◌≤◌, Bool, true, false, not, nat_eq, cond, Some, None, inl, inr, List, [], ◌∷◌, ◌++◌, map, zero, suc, refl, sym, ◌∙◌, ap, subst, append_assoc, arith, ◌⊎◌, ◌^◌, Option, All, Contains, IsBitSet, bit_and, false≢true, eqb-true, length-map, get_or-map, All-append, All-nil, All-cons, All-map, All-contains, All-contains_itself, All-weaker, Contains-append_left, Contains-append_right, Contains-append_cases}
+use Rattle.search_laws.specs.{GraphMeaning, is_open, moving_letters, way_if, way_at, ways_from, GraphArc, Visit, Way, GivenRun, GivenRuns, IsRunNoted, IsAsGood, HasAsGood, RunRides, WasGiven, HasAsGoodOrGiven, AreFresh, AddsFresh, StandsStill, AreMoving, AddsMoving}
 
 -- ---- as good
 

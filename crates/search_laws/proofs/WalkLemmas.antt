@@ -1,9 +1,6 @@
 -- Laws of walks and of their words, for those who search or check.
-use Rattle.std.proofs.Common.{◌≡◌, ℕ, ◌≤◌, List, [], ◌∷◌, ◌++◌, Some, None, refl, sym, ◌∙◌, ap, subst, append_assoc, append-nil, arith}
-use Rattle.std.specs.Prelude.{Option, option_to_list}
-use Rattle.search_laws.specs.GraphLaws.{GraphMeaning, HasArc, IsLawfulGraph}
-use Rattle.search_laws.specs.LabelLaws.{LabelsMeaning, Reads, Follows, AllAfter}
-use Rattle.search_laws.specs.Walks.{WalkStep, wait, arc, IsWalk, word_from}
+use Rattle.plan_base.proofs.Common.{◌≡◌, ℕ, ◌≤◌, List, [], ◌∷◌, ◌++◌, Some, None, refl, sym, ◌∙◌, ap, subst, append_assoc, append-nil, arith, Option, option_to_list}
+use Rattle.search_laws.specs.{GraphMeaning, HasArc, IsLawfulGraph, LabelsMeaning, Reads, Follows, AllAfter, WalkStep, wait, arc, IsWalk, word_from}
 
 -- ---- arcs
 

@@ -1,14 +1,6 @@
 -- Laws of the lists of arcs that can be taken.
-use Rattle.std.proofs.Common.{◌≡◌, ℕ, ◌+◌, ◌-◌, ◌<◌, ◌≤◌, Bool, true, false, cond, nat_eq, List, [], ◌∷◌, ◌++◌, Some, None, zero, suc, refl, sym, ◌∙◌, ap, subst, append_assoc, append-nil, arith}
-use Rattle.std.specs.List.{flat_map, range_with_len}
-use Rattle.std.proofs.lemmas.Grind.{flat_map-append}
-use Rattle.std.proofs.lemmas.Bool.{eqb-true, eqb-false}
-use Rattle.std.proofs.lemmas.List.Elements.{All-cons, All-nil, All-append, Contains-append_left, Contains-append_right}
-use Rattle.search_laws.specs.GraphLaws.{GraphMeaning, HasArc}
-use Rattle.search_laws.specs.declared.graph.Way.{Way}
-use Rattle.std.specs.Prelude.{Option, All, Contains}
-use Rattle.search_laws.specs.declared.graph.GraphArc.{GraphArc}
-use Rattle.search_laws.specs.Ways.{is_open, way_if, open_way, way_at, ways_from, ways_of, ways_past, IsWay}
+use Rattle.plan_base.proofs.Common.{◌≡◌, ℕ, ◌+◌, ◌-◌, ◌<◌, ◌≤◌, Bool, true, false, cond, nat_eq, List, [], ◌∷◌, ◌++◌, Some, None, zero, suc, refl, sym, ◌∙◌, ap, subst, append_assoc, append-nil, arith, flat_map, range_with_len, flat_map-append, eqb-true, eqb-false, All-cons, All-nil, All-append, Contains-append_left, Contains-append_right, Option, All, Contains}
+use Rattle.search_laws.specs.{GraphMeaning, HasArc, Way, GraphArc, is_open, way_if, open_way, way_at, ways_from, ways_of, ways_past, IsWay}
 
 pub range_more : (i m n : ℕ) → range_with_len i (m + n) ≡ range_with_len i m ++ range_with_len (i + m) n
 range_more i zero n =

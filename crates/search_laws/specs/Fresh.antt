@@ -1,9 +1,7 @@
 -- What a search is given of the arcs of a node where it was given rides of the same runs before.
 use Rattle.std.specs.Prelude.{◌≡◌, ℕ, ◌≤◌, ◌⊎◌, ◌++◌, List, Some, All, Contains, IsBitSet}
-use Rattle.search_laws.specs.declared.graph.Visit.{Visit}
+pub use Rattle.search_laws.specs.{declared.graph.Visit.Visit, declared.given.GivenRun.GivenRun, declared.given.GivenRuns.GivenRuns}
 use Rattle.search_laws.specs.declared.graph.Way.{Way}
-use Rattle.search_laws.specs.declared.given.GivenRun.{GivenRun}
-use Rattle.search_laws.specs.declared.given.GivenRuns.{GivenRuns}
 
 -- ---- runs that were given
 

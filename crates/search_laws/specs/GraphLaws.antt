@@ -1,7 +1,7 @@
 -- What a graph answers, as functions on numbers, and the laws that every graph keeps.
 use Rattle.std.specs.Prelude.{◌≡◌, ℕ, ◌+◌, ◌^◌, ◌<◌, ◌≤◌, Option, Some, None, IfSome}
 use Rattle.search_laws.specs.Letters.{IsLetter}
-use Rattle.search_laws.specs.declared.graph.GraphArc.{GraphArc}
+pub use Rattle.search_laws.specs.declared.graph.GraphArc.{GraphArc}
 
 pub record GraphMeaning : Type 0 where
   pub nodes : ℕ

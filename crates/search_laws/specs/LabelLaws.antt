@@ -1,7 +1,7 @@
 -- What an automaton answers, as functions on numbers, the laws that it keeps, and the words that it accepts.
 use Rattle.std.specs.Prelude.{◌≡◌, ℕ, ◌^◌, ◌<◌, ◌≤◌, Bool, List, [], ◌∷◌, Option, Some, None, IsTrue, IsBitSet}
 use Rattle.search_laws.specs.Letters.{IsLetterSet}
-use Rattle.search_laws.specs.declared.labels.Move.{Move}
+pub use Rattle.search_laws.specs.declared.labels.Move.{Move}
 
 pub record LabelsMeaning : Type 0 where
   pub states : ℕ

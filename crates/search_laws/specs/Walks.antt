@@ -1,7 +1,6 @@
 -- Walks through a graph by waits and arcs, their words, and the least arrival of the accepted ones.
 use Rattle.std.specs.Prelude.{◌≡◌, ℕ, ◌≤◌, List, [], ◌∷◌, ◌++◌, Some, Contains, option_to_list}
-use Rattle.search_laws.specs.GraphLaws.{GraphMeaning, HasArc}
-use Rattle.search_laws.specs.LabelLaws.{LabelsMeaning, Accepts}
+use Rattle.search_laws.specs.{GraphLaws.GraphMeaning, GraphLaws.HasArc, LabelLaws.LabelsMeaning, LabelLaws.Accepts}
 
 -- a wait until a time, or the arc at a place of the node that was reached
 pub data WalkStep : Type 0 where

@@ -1,11 +1,8 @@
 -- The arcs of a node that can be taken at a time, by a letter of a set or by none.
-use Rattle.std.specs.Prelude.{◌≡◌, ℕ, ◌+◌, ◌-◌, ◌^◌, ◌==◌, Bool, true, not, List, [], ◌∷◌, Option, Some, None, if◌then◌else◌}
-use Rattle.std.specs.List.{flat_map, range_with_len}
-use Rattle.std.specs.Int.Bits.{bit_and}
-use Rattle.search_laws.specs.GraphLaws.{GraphMeaning, HasArc}
-use Rattle.search_laws.specs.declared.graph.GraphArc.{GraphArc}
-use Rattle.search_laws.specs.declared.graph.Leg.{Leg}
-use Rattle.search_laws.specs.declared.graph.Way.{Way}
+use Rattle.std.specs.Prelude.{◌≡◌, ℕ, ◌+◌, ◌-◌, ◌^◌, ◌==◌, Bool, true, not, List, [], ◌∷◌, Option, Some, None, if◌then◌else◌, flat_map, bit_and}
+use Rattle.std.specs.List.{range_with_len}
+use Rattle.search_laws.specs.{GraphLaws.GraphMeaning, GraphLaws.HasArc, declared.graph.GraphArc.GraphArc}
+pub use Rattle.search_laws.specs.{declared.graph.Leg.Leg, declared.graph.Way.Way}
 
 -- the letter is in the set, of which it is a bit, or there is none
 abbrev pub is_open : ℕ → Option ℕ → Bool

@@ -1,12 +1,10 @@
 -- The date after a civil date, and the one before, are civil dates, one day later and earlier.
-use Rattle.std.proofs.Common.{◌≡◌, refl, sym, ap, ◌∙◌, ℕ, zero, suc, ◌+◌, ◌-◌, ◌*◌, ◌<◌, ◌≤◌, true, false, ltb, arith, pos, ◌+ℤ◌}
-use Rattle.std.proofs.lemmas.Bool.{ltb-true, ltb-false, lt-ltb, le-ltb}
+use Rattle.plan_base.proofs.Common.{◌≡◌, refl, sym, ap, ◌∙◌, ℕ, zero, suc, ◌+◌, ◌-◌, ◌*◌, ◌<◌, ◌≤◌, true, false, ltb, arith, pos, ◌+ℤ◌, ltb-true, ltb-false, lt-ltb, le-ltb}
 use Rattle.jiff_core.specs.Calendar.{days_in_month, days_from_civil}
 use Rattle.jiff_core.proofs.SignedLemmas.{signed_arith}
 use Rattle.jiff_core.proofs.CalendarLemmas.{days_in_month_bounds}
 use Rattle.jiff_core.proofs.DateLemmas.{days_from_civil-day, days_from_civil-next_month, days_from_civil-next_year}
-use Rattle.service_days.specs.Dates.{year_of, month_of, day_of_month, month_length, is_civil, epoch_day_of, date_after, date_before, earlier_date}
-use Rattle.service_days.specs.Days.{date_on, is_first_date}
+use Rattle.service_days.specs.{year_of, month_of, day_of_month, month_length, is_civil, epoch_day_of, date_after, date_before, earlier_date, date_on, is_first_date}
 use Rattle.service_days.proofs.PlainDays.{later_date-suc, later_date-zero, earlier_date-suc, earlier_date-zero, first_year}
 
 -- the parts of a number YYYYMMDD

@@ -1,17 +1,9 @@
 -- A clock text tells its time.
-use Rattle.std.proofs.Common.{◌≡◌, refl, sym, ap, ap₂, subst, ◌∙◌, ℕ, zero, suc, ◌+◌, ◌-◌, ◌*◌, ◌/◌, ◌%◌, ◌^◌, ◌<◌, ◌≤◌, Bool, true, false, cond, ◌&&◌, ltb, leb, List, ◌∷◌, ◌++◌, length, take, drop, get_or, Some, arith, append_assoc, length-append}
-use Rattle.std.specs.Option.{option_and_then}
-use Rattle.std.proofs.lemmas.Bool.{ltb-true, ltb-false, lt-ltb, le-ltb, lt-leb, leb-true, leb-false}
-use Rattle.std.proofs.Math.Seq.{take-append_seam, drop-append_seam}
-use Rattle.plain_texts.specs.FixedDecimal.{fixed_decimal, fixed_at}
+use Rattle.plan_base.proofs.Common.{◌≡◌, refl, sym, ap, ap₂, subst, ◌∙◌, ℕ, zero, suc, ◌+◌, ◌-◌, ◌*◌, ◌/◌, ◌%◌, ◌^◌, ◌<◌, ◌≤◌, Bool, true, false, cond, ◌&&◌, ltb, leb, List, ◌∷◌, ◌++◌, length, take, drop, get_or, Some, arith, append_assoc, length-append, option_and_then, ltb-true, ltb-false, lt-ltb, le-ltb, lt-leb, leb-true, leb-false, take-append_seam, drop-append_seam}
+use Rattle.plain_texts.specs.{fixed_decimal, fixed_at}
 use Rattle.plain_texts.proofs.FixedDecimal.{length-fixed_decimal, fixed_again}
-use Rattle.service_days.specs.DaysMeaning.{DaysMeaning}
-use Rattle.service_days.specs.Days.{AreDays, numbers_of, base_of, date_of, day_with_date, day_at, last_not_later}
-use Rattle.service_days.specs.Clock.{part_text, time_text, clock_text_of}
-use Rattle.service_days.specs.ReadClock.{short_at, hundreds_at, after_space, moment_at, front_at, clock_at}
-use Rattle.service_days.proofs.InOrder.{are_in_order}
-use Rattle.service_days.proofs.RisingLists.{last_is, found_at, non_decreasing}
-use Rattle.service_days.proofs.ReadClockLaws.{short_text, hundreds_text, time_split, short_again, hundreds_again}
+use Rattle.service_days.specs.{DaysMeaning.DaysMeaning, AreDays, numbers_of, base_of, date_of, day_with_date, day_at, last_not_later, part_text, time_text, clock_text_of, short_at, hundreds_at, after_space, moment_at, front_at, clock_at}
+use Rattle.service_days.proofs.{InOrder.are_in_order, RisingLists.last_is, RisingLists.found_at, RisingLists.non_decreasing, ReadClockLaws.short_text, ReadClockLaws.hundreds_text, ReadClockLaws.time_split, ReadClockLaws.short_again, ReadClockLaws.hundreds_again}
 
 -- a day is under way at t: its base is not later, and the next day's is
 pub record IsUnderWay (days : DaysMeaning) (day t : ℕ) : Type 0 where

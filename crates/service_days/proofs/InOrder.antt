@@ -1,8 +1,6 @@
-use Rattle.std.proofs.Common.{◌≡◌, subst, ℕ, zero, suc, ◌+◌, ◌*◌, ◌<◌, ◌≤◌, arith}
-use Rattle.service_days.specs.DaysMeaning.{DaysMeaning}
-use Rattle.service_days.specs.Days.{AreDays, AreRisingDays, base_of, date_of}
-use Rattle.service_days.proofs.PlainDays.{bases_rise, dates_rise}
-use Rattle.service_days.proofs.CivilDates.{IsDateOn, on_day, parts_civil}
+use Rattle.plan_base.proofs.Common.{◌≡◌, subst, ℕ, zero, suc, ◌+◌, ◌*◌, ◌<◌, ◌≤◌, arith}
+use Rattle.service_days.specs.{DaysMeaning.DaysMeaning, AreDays, AreRisingDays, base_of, date_of}
+use Rattle.service_days.proofs.{PlainDays.bases_rise, PlainDays.dates_rise, CivilDates.IsDateOn, CivilDates.on_day, CivilDates.parts_civil}
 
 base-le : (days : DaysMeaning) → AreDays days → (day : ℕ) → day < days.count + 7 → base_of days day ≤ 93600000 * day
 base-le days are zero h = omega (arith, are.start)

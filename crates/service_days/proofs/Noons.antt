@@ -1,6 +1,6 @@
 -- Noons are those that `jiff` states, and a rule that `jiff` reads gives its zone.
-use Rattle.std.proofs.Common.{◌≡◌, refl, sym, ap, ap₂, ℕ, Bool, true, false, T, Option, Some, None, arith, List, ℤ, pos, ◌+ℤ◌, ◌-ℤ◌, ◌*ℤ◌, int_le, neg_ℤ, unsigned_abs, Result, Ok, Err, IsOk, IsSome, IfOk, ◌↔◌}
-use Rattle.std.specs.Option.{option_map}
+use Rattle.plan_base.proofs.Common.{◌≡◌, refl, sym, ap, ap₂, ℕ, Bool, true, false, T, Option, Some, None, arith, List, ℤ, pos, ◌+ℤ◌, ◌-ℤ◌, ◌*ℤ◌, int_le, neg_ℤ, unsigned_abs, Result, Ok, Err, IsSome, IfOk, ◌↔◌, option_map}
+use Rattle.std.proofs.Common.{IsOk}
 use Rattle.std.specs.Result.{result_ok}
 use Rattle.jiff_core.specs.declared.error.Error.{Error}
 use Rattle.jiff_core.specs.Date.{IsYmd, epoch_day}
@@ -16,15 +16,13 @@ use Rattle.jiff_tz.specs.PosixText.{TzText, tz_view, dst_view, day_time_view}
 use Rattle.jiff_tz.specs.declared.posix.DayTime.{DayTime}
 use Rattle.jiff_tz.specs.declared.posix.Dst.{Dst}
 use Rattle.jiff_tz.specs.declared.posix.TimeZone.{TimeZone}
-use Rattle.plan_base.specs.PlaceOf.{shown}
+use Rattle.plan_base.specs.{shown}
 use Rattle.std.proofs.Math.Bool.{Bool-set}
 use Rattle.jiff_core.proofs.SignedLemmas.{signed_arith}
 use Rattle.jiff_core.specs.Timestamp.{nanos_of_seconds}
 use Rattle.jiff_tz.specs.Ambiguous.{compatible_offset}
 use Rattle.jiff_tz.specs.declared.ambiguous.AmbiguousOffset.{AmbiguousOffset}
-use Rattle.service_days.specs.Noons.{IsNoonOf, instant_in}
-use Rattle.service_days.specs.Dates.{year_of, month_of, day_of_month, epoch_day_of}
-use Rattle.service_days.specs.Zones.{Zone, summer_of, zone_of, shown_true, offset_from, day_time_from, summer_from, with_summer, read_zone, wall_noon, noon_offsets_by, noon_in}
+use Rattle.service_days.specs.{IsNoonOf, instant_in, year_of, month_of, day_of_month, epoch_day_of, Zone, summer_of, zone_of, shown_true, offset_from, day_time_from, summer_from, with_summer, read_zone, wall_noon, noon_offsets_by, noon_in}
 
 pub epoch_day_is : (n : ℕ) (date : Date) → IsYmd (pos (year_of n)) (pos (month_of n)) (pos (day_of_month n)) date → epoch_day date ≡ epoch_day_of n
 epoch_day_is n date is =

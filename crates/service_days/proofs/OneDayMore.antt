@@ -1,6 +1,5 @@
 -- A set of days that is made day by day.
-use Rattle.std.proofs.Common.{◌≡◌, refl, ap, ◌∙◌, ℕ, ◌+◌, Bool, true, false, ◌&&◌, ◌||◌, ◌==◌, ltb, eqb, arith}
-use Rattle.std.proofs.lemmas.Bool.{lt-ltb, eqb-true}
+use Rattle.plan_base.proofs.Common.{◌≡◌, refl, ap, ◌∙◌, ℕ, ◌+◌, Bool, true, false, ◌&&◌, ◌||◌, ◌==◌, ltb, eqb, arith, lt-ltb, eqb-true}
 
 -- below the next number: below this one, or this one
 ltb-next : (other day : ℕ) → ltb other (day + 1) ≡ ((other == day) || ltb other day)

@@ -1,14 +1,8 @@
-use Rattle.std.proofs.Common.{◌≡◌, refl, sym, ap, subst, ◌∙◌, ℕ, suc, ◌+◌, ◌*◌, ◌<◌, ◌≤◌, true, map, length, get_or, ◌++◌, ◌∷◌, [], arith, pos, unsigned_abs}
-use Rattle.std.specs.List.{range_with_len}
-use Rattle.std.proofs.lemmas.List.FromFn.{length-map-range_with_len, get_or-map-range_with_len, map-range_with_len_more}
+use Rattle.plan_base.proofs.Common.{◌≡◌, refl, sym, ap, subst, ◌∙◌, ℕ, suc, ◌+◌, ◌*◌, ◌<◌, ◌≤◌, true, map, length, get_or, ◌++◌, ◌∷◌, [], arith, pos, unsigned_abs, range_with_len, length-map-range_with_len, get_or-map-range_with_len, map-range_with_len_more}
 use Rattle.jiff_core.specs.Date.{IsYmd}
 use Rattle.jiff_core.specs.declared.civil.date.Date.{Date}
-use Rattle.service_days.specs.DaysMeaning.{DaysMeaning}
-use Rattle.service_days.specs.Dates.{year_of, month_of, day_of_month, later_date, earlier_date, date_after, date_before}
-use Rattle.service_days.specs.inside.Numbers.{number_of_date}
-use Rattle.service_days.specs.Rising.{Rise}
+use Rattle.service_days.specs.{DaysMeaning.DaysMeaning, year_of, month_of, day_of_month, later_date, earlier_date, date_after, date_before, Rise, AreDays, plain_days, date_on, is_first_date, is_day_count, inside.number_of_date}
 use Rattle.service_days.proofs.RisingLists.{rise_by_steps}
-use Rattle.service_days.specs.Days.{AreDays, plain_days, date_on, is_first_date, is_day_count}
 
 pub later_date-suc : (n date : ℕ) → later_date (n + 1) date ≡ date_after (later_date n date)
 unfolding later_date

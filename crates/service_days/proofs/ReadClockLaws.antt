@@ -1,14 +1,8 @@
 -- The parts of a clock text, each of which is read back.
-use Rattle.std.proofs.Common.{◌≡◌, refl, sym, ap, ap₂, ◌∙◌, ℕ, suc, ◌+◌, ◌*◌, ◌/◌, ◌%◌, ◌^◌, ◌<◌, true, false, cond, ltb, eqb, List, [], ◌∷◌, ◌++◌, length, Some, arith, append_assoc}
-use Rattle.std.specs.Fmt.{decimal}
-use Rattle.std.proofs.lemmas.Fmt.{decimal_step_wide}
-use Rattle.std.proofs.lemmas.Bool.{ltb-true, ltb-false, lt-ltb, eqb-true}
-use Rattle.std.proofs.lemmas.Bool.Decides.{nat_tests}
-use Rattle.plain_texts.specs.FixedDecimal.{fixed_decimal, fixed_at}
-use Rattle.plain_texts.proofs.FixedDecimal.{fixed_decimal-zero, fixed_decimal-suc, fixed_again}
-use Rattle.plain_texts.proofs.Decimal.{number_again, first_digit}
-use Rattle.service_days.specs.Clock.{hours_text, part_text, time_text}
-use Rattle.service_days.specs.ReadClock.{short_at, hundreds_at}
+use Rattle.plan_base.proofs.Common.{◌≡◌, refl, sym, ap, ap₂, ◌∙◌, ℕ, suc, ◌+◌, ◌*◌, ◌/◌, ◌%◌, ◌^◌, ◌<◌, true, false, cond, ltb, eqb, List, [], ◌∷◌, ◌++◌, length, Some, arith, append_assoc, decimal, decimal_step_wide, ltb-true, ltb-false, lt-ltb, eqb-true, nat_tests}
+use Rattle.plain_texts.specs.{fixed_decimal, fixed_at}
+use Rattle.plain_texts.proofs.{FixedDecimal.fixed_decimal-zero, FixedDecimal.fixed_decimal-suc, FixedDecimal.fixed_again, Decimal.number_again, Decimal.first_digit}
+use Rattle.service_days.specs.{hours_text, part_text, time_text, short_at, hundreds_at}
 
 -- two and three digits, one by one
 fixed_two : (n : ℕ) → fixed_decimal 2 n ≡ (48 + n / 10 % 10) ∷ (48 + n % 10) ∷ []

@@ -1,11 +1,7 @@
 -- Places in lists of numbers that rise.
-use Rattle.std.proofs.Common.{◌≡◌, refl, sym, ap, ℕ, zero, suc, ◌+◌, ◌-◌, ◌<◌, ◌≤◌, ◌≢◌, true, false, not, cond, ltb, leb, ◌==◌, List, length, get_or, Some, None, arith}
-use Rattle.std.specs.List.{position, prefix_len}
-use Rattle.std.specs.List.Sorted.{IsPartitionPoint}
-use Rattle.std.proofs.lemmas.Bool.{ltb-true, ltb-false, lt-ltb, le-ltb, le-leb, lt-leb, leb-true, leb-false}
+use Rattle.plan_base.proofs.Common.{◌≡◌, refl, sym, ap, ℕ, zero, suc, ◌+◌, ◌-◌, ◌<◌, ◌≤◌, ◌≢◌, true, false, not, cond, ltb, leb, ◌==◌, List, length, get_or, Some, None, arith, position, prefix_len, IsPartitionPoint, ltb-true, ltb-false, lt-ltb, le-ltb, le-leb, lt-leb, leb-true, leb-false}
 use Rattle.std.proofs.lemmas.List.Sums.{prefix_len_is}
-use Rattle.service_days.specs.Days.{last_not_later}
-use Rattle.service_days.specs.Rising.{Rise}
+use Rattle.service_days.specs.{last_not_later, Rise}
 
 -- what rises from each number to the next rises
 pub rise_by_steps : (f : ℕ → ℕ) (n : ℕ) → ((k : ℕ) → k + 1 < n → f k < f (k + 1)) → (j k : ℕ) → j < k → k < n → f j < f k

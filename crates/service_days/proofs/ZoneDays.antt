@@ -1,25 +1,11 @@
 -- Days in a zone.
-use Rattle.std.proofs.Common.{◌≡◌, refl, sym, ap, ap₂, subst, ◌∙◌, ℕ, zero, suc, ◌+◌, ◌/◌, ◌<◌, ◌≤◌, Bool, true, false, ◌&&◌, List, length, map, get_or, take, arith, ltb, ℤ, pos, ◌+ℤ◌, ◌-ℤ◌, ◌*ℤ◌, ◌≤ℤ◌, int_le, unsigned_abs, Option, Some, None, Result, Ok, Err, IfSome, cond}
-use Rattle.std.specs.List.{range_with_len}
-use Rattle.std.proofs.lemmas.Bool.{ltb-true, ltb-false}
-use Rattle.std.proofs.lemmas.Float.{T_from_true}
+use Rattle.plan_base.proofs.Common.{◌≡◌, refl, sym, ap, ap₂, subst, ◌∙◌, ℕ, zero, suc, ◌+◌, ◌/◌, ◌<◌, ◌≤◌, Bool, true, false, ◌&&◌, List, length, map, get_or, take, arith, ltb, ℤ, pos, ◌+ℤ◌, ◌-ℤ◌, ◌*ℤ◌, ◌≤ℤ◌, int_le, unsigned_abs, Option, Some, None, Result, Ok, Err, IfSome, cond, range_with_len, ltb-true, ltb-false, T_from_true, length-map-range_with_len, same_Some}
 use Rattle.jiff_core.specs.Calendar.{IsWithin}
 use Rattle.jiff_core.proofs.SignedLemmas.{signed_arith}
-use Rattle.std.proofs.lemmas.List.FromFn.{length-map-range_with_len, take-map-range_with_len}
-use Rattle.service_days.specs.Dates.{is_civil}
-use Rattle.service_days.specs.Days.{AreDays, date_on, is_first_date, is_day_count, plain_days}
-use Rattle.service_days.specs.Days.{IsDaysRefusal}
-use Rattle.service_days.specs.declared.range.RangeFault.{RangeFault}
-use Rattle.service_days.specs.declared.range.RangeFault.TheVariants.{BadDate, BadCount, BadZone, OutOfMemory}
-use Rattle.service_days.specs.Zones.{AreKept, RefusesLengths, days_in, days_in_read, is_rule_text, read_zone, zone_days, days_made, Zone, have_day_lengths, is_day_length, noon_in, noon_on, zone_base, zone_of, dates_and_next, days_with_bases}
-use Rattle.service_days.specs.DaysMeaning.{DaysMeaning}
-use Rattle.std.proofs.lemmas.Option.{same_Some}
+use Rattle.std.proofs.lemmas.List.FromFn.{take-map-range_with_len}
+use Rattle.service_days.specs.{is_civil, AreDays, date_on, is_first_date, is_day_count, plain_days, IsDaysRefusal, RangeFault, BadDate, BadCount, BadZone, OutOfMemory, AreKept, RefusesLengths, days_in, days_in_read, is_rule_text, read_zone, zone_days, days_made, Zone, have_day_lengths, is_day_length, noon_in, noon_on, zone_base, zone_of, dates_and_next, days_with_bases, CountFromNoons, IsNoonOf, DaysMeaning.DaysMeaning}
 use Rattle.jiff_core.specs.declared.civil.datetime.DateTime.{DateTime}
-use Rattle.service_days.specs.Noons.{CountFromNoons, IsNoonOf}
-use Rattle.service_days.proofs.Noons.{noon_is_instant, zone_again}
-use Rattle.service_days.proofs.DateSteps.{pos-unsigned_abs}
-use Rattle.service_days.proofs.PlainDays.{at_day, plain_are_days}
-use Rattle.service_days.proofs.CivilDates.{on_day, parts_civil}
+use Rattle.service_days.proofs.{Noons.noon_is_instant, Noons.zone_again, DateSteps.pos-unsigned_abs, PlainDays.at_day, PlainDays.plain_are_days, CivilDates.on_day, CivilDates.parts_civil}
 
 -- where the days so far have led: to this noon, in seconds, which is not before the first one
 pub record IsAtNoon (zone : Zone) (dates : List ℕ) (day : ℕ) (start here : ℤ) : Type 0 where

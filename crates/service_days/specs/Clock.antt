@@ -1,9 +1,7 @@
 -- Clock texts: YYYYMMDD HH:MM:SS.mmm, with more digits of hours where they are needed.
-use Rattle.std.specs.Prelude.{ℕ, ◌-◌, ◌/◌, ◌%◌, List, ◌∷◌, ◌++◌, nat_lt, if◌then◌else◌}
-use Rattle.std.specs.Fmt.{decimal}
-use Rattle.plain_texts.specs.FixedDecimal.{fixed_decimal}
-use Rattle.service_days.specs.DaysMeaning.{DaysMeaning}
-use Rattle.service_days.specs.Days.{base_of, date_of, day_at}
+use Rattle.std.specs.Prelude.{ℕ, ◌-◌, ◌/◌, ◌%◌, List, ◌∷◌, ◌++◌, nat_lt, if◌then◌else◌, decimal}
+use Rattle.plain_texts.specs.{fixed_decimal}
+use Rattle.service_days.specs.{DaysMeaning.DaysMeaning, Days.base_of, Days.date_of, Days.day_at}
 
 -- at least two digits
 abbrev pub hours_text : ℕ → List ℕ

@@ -1,6 +1,6 @@
 -- Civil dates as numbers YYYYMMDD.
 use Rattle.std.specs.Prelude.{ℕ, zero, suc, ◌+◌, ◌-◌, ◌*◌, ◌/◌, ◌%◌, Bool, ◌&&◌, nat_eq, nat_le, nat_lt, if◌then◌else◌, ℤ, pos, List, length, Option, Some, None, option_and_then}
-use Rattle.plain_texts.specs.FixedDecimal.{fixed_at}
+use Rattle.plain_texts.specs.{fixed_at}
 use Rattle.jiff_core.specs.Calendar.{days_in_month, days_from_civil}
 
 -- the year, the month and the day of the month

@@ -1,11 +1,8 @@
 -- The days of a region. Seven lead days stand before the first date, so day number k is that date and k - 7 days.
-use Rattle.std.specs.Prelude.{◌≡◌, ℕ, zero, suc, ◌+◌, ◌*◌, ◌^◌, ◌<◌, ◌≤◌, Bool, true, List, map, length, Option, None, Result, Ok, Err, ◌&&◌, ◌==◌, nat_le, if◌then◌else◌, slice_index, pos, ◌+ℤ◌}
-use Rattle.std.specs.List.{range_with_len, position}
-use Rattle.service_days.specs.DaysMeaning.{DaysMeaning}
-use Rattle.service_days.specs.Dates.{year_of, is_civil, epoch_day_of, later_date, earlier_date}
-use Rattle.service_days.specs.Rising.{Rise}
-use Rattle.service_days.specs.declared.range.RangeFault.{RangeFault}
-use Rattle.service_days.specs.declared.range.RangeFault.TheVariants.{BadDate, BadCount, BadZone, OutOfMemory}
+use Rattle.std.specs.Prelude.{◌≡◌, ℕ, zero, suc, ◌+◌, ◌*◌, ◌^◌, ◌<◌, ◌≤◌, Bool, true, List, map, length, Option, None, Result, Ok, Err, ◌&&◌, ◌==◌, nat_le, if◌then◌else◌, slice_index, pos, ◌+ℤ◌, position}
+use Rattle.std.specs.List.{range_with_len}
+use Rattle.service_days.specs.{DaysMeaning.DaysMeaning, Dates.year_of, Dates.is_civil, Dates.epoch_day_of, Dates.later_date, Dates.earlier_date, Rising.Rise}
+pub use Rattle.service_days.specs.{declared.range.RangeFault.RangeFault, declared.range.RangeFault.TheVariants.BadDate, declared.range.RangeFault.TheVariants.BadCount, declared.range.RangeFault.TheVariants.BadZone, declared.range.RangeFault.TheVariants.OutOfMemory}
 
 -- how many day numbers there are
 abbrev pub numbers_of : DaysMeaning → ℕ

@@ -8,9 +8,7 @@ use Rattle.jiff_tz.specs.PosixReader.{read_whole}
 use Rattle.jiff_tz.specs.PosixRule.{ambiguous_at}
 use Rattle.jiff_tz.specs.PosixText.{tz_view}
 use Rattle.jiff_tz.specs.declared.posix.TimeZone.{TimeZone}
-use Rattle.service_days.specs.DaysMeaning.{DaysMeaning}
-use Rattle.service_days.specs.Dates.{year_of, month_of, day_of_month}
-use Rattle.service_days.specs.Days.{base_of, date_of}
+use Rattle.service_days.specs.{DaysMeaning.DaysMeaning, Dates.year_of, Dates.month_of, Dates.day_of_month, Days.base_of, Days.date_of}
 
 -- noon of a date on the wall clock
 pub record IsNoonOf (date : ℕ) (at : DateTime) : Type 0 where

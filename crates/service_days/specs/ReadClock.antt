@@ -1,11 +1,8 @@
 -- How a clock text is read back, which tells that no two times have the same: eight digits of a date, a space, the digits
 -- of whole hundreds of hours, and the twelve bytes of what is left.
-use Rattle.std.specs.Prelude.{ℕ, ◌+◌, ◌-◌, ◌*◌, ◌^◌, List, [], ◌∷◌, length, take, drop, Option, None, Some, ◌==◌, ◌&&◌, nat_eq, nat_le, nat_lt, if◌then◌else◌}
-use Rattle.std.specs.Option.{option_and_then, option_map}
-use Rattle.plain_texts.specs.FixedDecimal.{fixed_at}
-use Rattle.plain_texts.specs.Numbers.{number_at}
-use Rattle.service_days.specs.DaysMeaning.{DaysMeaning}
-use Rattle.service_days.specs.Days.{numbers_of, base_of, day_with_date}
+use Rattle.std.specs.Prelude.{ℕ, ◌+◌, ◌-◌, ◌*◌, ◌^◌, List, [], ◌∷◌, length, take, drop, Option, None, Some, ◌==◌, ◌&&◌, nat_eq, nat_le, nat_lt, if◌then◌else◌, option_and_then, option_map}
+use Rattle.plain_texts.specs.{fixed_at, number_at}
+use Rattle.service_days.specs.{DaysMeaning.DaysMeaning, Days.numbers_of, Days.base_of, Days.day_with_date}
 
 -- a number of minutes or seconds
 abbrev pub below_sixty : ℕ → Option ℕ

@@ -3,7 +3,7 @@ use Rattle.std.specs.Prelude.{ℕ, Bool, false, not, List, Option, None, Some, �
 use Rattle.std.specs.List.{list_any}
 use Rattle.jiff_core.specs.Calendar.{weekday_number}
 use Rattle.service_days.specs.Dates.{epoch_day_of}
-use Rattle.service_days.specs.declared.services.ServiceRule.{ServiceRule}
+pub use Rattle.service_days.specs.declared.services.ServiceRule.{ServiceRule}
 
 -- the day of the week of a date, from 0 for Monday
 abbrev pub weekday_on : ℕ → ℕ

@@ -1,7 +1,6 @@
 -- Days in the zone of a POSIX rule. Which rules read, and which instants a wall clock shows, is what `jiff` states.
-use Rattle.std.specs.Prelude.{◌≡◌, refl, ℕ, zero, suc, ◌+◌, ◌/◌, Bool, true, false, not, List, map, length, Option, None, Some, Result, Ok, Err, ◌&&◌, nat_eq, nat_le, if◌then◌else◌, slice_index, ℤ, pos, neg_ℤ, ◌+ℤ◌, ◌-ℤ◌, ◌*ℤ◌, int_le, unsigned_abs}
+use Rattle.std.specs.Prelude.{◌≡◌, refl, ℕ, zero, suc, ◌+◌, ◌/◌, Bool, true, false, not, List, map, length, Option, None, Some, Result, Ok, Err, ◌&&◌, nat_eq, nat_le, if◌then◌else◌, slice_index, ℤ, pos, neg_ℤ, ◌+ℤ◌, ◌-ℤ◌, ◌*ℤ◌, int_le, unsigned_abs, option_and_then, option_map}
 use Rattle.std.specs.List.{list_all, range_with_len}
-use Rattle.std.specs.Option.{option_and_then, option_map}
 use Rattle.jiff_core.specs.Timestamp.{nanos_of_seconds}
 use Rattle.jiff_core.specs.declared.Offset.{Offset}
 use Rattle.jiff_tz.specs.Ambiguous.{compatible_offset}
@@ -15,12 +14,8 @@ use Rattle.jiff_tz.specs.declared.posix.Day.{Day}
 use Rattle.jiff_tz.specs.declared.posix.DayTime.{DayTime}
 use Rattle.jiff_tz.specs.declared.posix.Dst.{Dst}
 use Rattle.jiff_tz.specs.declared.posix.TimeZone.{TimeZone}
-use Rattle.plan_base.specs.PlaceOf.{shown}
-use Rattle.service_days.specs.DaysMeaning.{DaysMeaning}
-use Rattle.service_days.specs.Dates.{year_of, epoch_day_of}
-use Rattle.service_days.specs.Days.{AreDays, date_on, is_first_date, is_day_count, new_days}
-use Rattle.service_days.specs.declared.range.RangeFault.{RangeFault}
-use Rattle.service_days.specs.declared.range.RangeFault.TheVariants.{BadDate, BadCount, BadZone, OutOfMemory}
+use Rattle.plan_base.specs.{shown}
+use Rattle.service_days.specs.{DaysMeaning.DaysMeaning, Dates.year_of, Dates.epoch_day_of, Days.AreDays, Days.date_on, Days.is_first_date, Days.is_day_count, Days.new_days, declared.range.RangeFault.RangeFault, declared.range.RangeFault.TheVariants.BadDate, declared.range.RangeFault.TheVariants.BadCount, declared.range.RangeFault.TheVariants.BadZone, declared.range.RangeFault.TheVariants.OutOfMemory}
 
 -- what a zone's clock does: its offset in standard time, and in daylight saving time with the days on which that begins and ends
 pub record Summer : Type 0 where

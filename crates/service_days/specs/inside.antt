@@ -1,1 +1,2 @@
 pub mod Numbers
+pub use Numbers.{number_of_date}

@@ -1,30 +1,9 @@
 -- The patterns that are made of trips are those of a timetable.
-use Rattle.std.proofs.Common.{◌≡◌, ℕ, ◌+◌, ◌*◌, ◌^◌, ◌<◌, ◌≤◌, List, [], ◌∷◌, ◌++◌, length, Some, None, true, false, Bool, cond, nat_lt, min, refl, ap, subst, ◌∙◌, arith, get_or}
-use Rattle.std.specs.Prelude.{slice_index_or, All, sum_by}
-use Rattle.std.specs.Int.{bit_at}
-use Rattle.std.proofs.Math.Nat.{mul-le-mul_right}
-use Rattle.std.proofs.lemmas.Bool.{ltb-true, ltb-false, eqb-true}
-use Rattle.std.proofs.lemmas.Nat.Bits.{bit_at_above}
-use Rattle.std.proofs.lemmas.Option.{slice_get_within, get_or_from_slice_get}
-use Rattle.std.proofs.lemmas.List.{get_or_past}
-use Rattle.std.proofs.lemmas.List.Sums.{get_or-le-sum_by}
-use Rattle.plan_base.specs.declared.limits.Caps.{Caps}
-use Rattle.plan_base.specs.declared.limits.Kind.TheVariants.{Trips, Calls}
-use Rattle.plan_base.specs.declared.days.DaySet.{DaySet}
-use Rattle.plan_base.specs.DaySets.{contains_day}
-use Rattle.timetable_arcs.specs.declared.trips.Instance.{Instance}
-use Rattle.timetable_arcs.specs.declared.faults.TableFault.TheVariants.{TooMany}
-use Rattle.timetable_arcs.specs.Trips.{TripLists, IsRunOf}
-use Rattle.timetable_arcs.specs.TripRules.{table_fault, trips_fault, calls_of, AreTrips}
-use Rattle.timetable_arcs.specs.Patterns.{TableLists, plain_table, trip_at, pattern_trip, runs_of, no_run, no_trip, IsIn, IsBehind, AreAlike, ArePatterns}
-use Rattle.timetable_arcs.specs.inside.Sorting.{runs_from, sum_all, IsPattern}
-use Rattle.timetable_arcs.specs.declared.rides.Board.{Board}
-use Rattle.timetable_arcs.specs.declared.rides.Ride.{Ride}
-use Rattle.timetable_arcs.specs.Rides.{rides_along, rides_from, rides_at, boards_along, boards_from}
-use Rattle.timetable_arcs.specs.RideTables.{BoardLists, sorted_table, AreBoards, AreAlightPlaces}
-use Rattle.timetable_arcs.specs.Table.{IsTable, AreBases}
-use Rattle.timetable_arcs.proofs.TripLemmas.{trips_kept, trip_well}
-use Rattle.timetable_arcs.proofs.CountLemmas.{some_part, two_parts, sum_no_more, one_at, counted_in, in_from_count, count_is, at_most_one, trip_from_count, count_from_trip, trip_count, calls_of_run, all_calls}
+use Rattle.plan_base.proofs.Common.{◌≡◌, ℕ, ◌+◌, ◌*◌, ◌^◌, ◌<◌, ◌≤◌, List, [], ◌∷◌, ◌++◌, length, Some, None, true, false, Bool, cond, nat_lt, min, refl, ap, subst, ◌∙◌, arith, get_or, slice_index_or, All, sum_by, bit_at, ltb-true, ltb-false, eqb-true, bit_at_above, slice_get_within, get_or_from_slice_get, get_or_past, get_or-le-sum_by}
+use Rattle.std.proofs.Common.{mul-le-mul_right}
+use Rattle.plan_base.specs.{Caps, Trips, Calls, DaySet, contains_day}
+use Rattle.timetable_arcs.specs.{Instance, TooMany, TripLists, IsRunOf, table_fault, trips_fault, calls_of, AreTrips, TableLists, plain_table, trip_at, pattern_trip, runs_of, no_run, no_trip, IsIn, IsBehind, AreAlike, ArePatterns, Board, Ride, rides_along, rides_from, rides_at, boards_along, boards_from, BoardLists, sorted_table, AreBoards, AreAlightPlaces, IsTable, AreBases, inside.runs_from, inside.sum_all, inside.IsPattern}
+use Rattle.timetable_arcs.proofs.{TripLemmas.trips_kept, TripLemmas.trip_well, CountLemmas.some_part, CountLemmas.two_parts, CountLemmas.sum_no_more, CountLemmas.one_at, CountLemmas.counted_in, CountLemmas.in_from_count, CountLemmas.count_is, CountLemmas.at_most_one, CountLemmas.trip_from_count, CountLemmas.count_from_trip, CountLemmas.trip_count, CountLemmas.calls_of_run, CountLemmas.all_calls}
 
 record HasFew (caps : Caps) (days stops : ℕ) (trips : List TripLists) : Type 0 where
   few_trips : length trips ≤ caps.trips

@@ -1,16 +1,7 @@
 -- How often a run stands in lists of runs.
-use Rattle.std.proofs.Common.{◌≡◌, ℕ, ◌+◌, ◌*◌, ◌<◌, ◌≤◌, ◌&&◌, List, [], ◌∷◌, length, Some, true, false, Bool, cond, nat_lt, nat_eq, refl, ap, sym, ◌∙◌, arith, suc, zero, get_or}
-use Rattle.std.specs.Prelude.{slice_get, slice_index_or, Contains, All, sum_by}
-use Rattle.std.proofs.lemmas.Bool.{ltb-true, ltb-false, lt-ltb, le-ltb, eqb-true, eqb-false, eq-eqb}
-use Rattle.std.proofs.lemmas.List.Sums.{sum_by-cons, sum_by-append, get_or-le-sum_by}
-use Rattle.std.proofs.lemmas.Option.{same_Some, none-some}
-use Rattle.plan_base.specs.declared.days.DaySet.{DaySet}
-use Rattle.plan_base.specs.DaySets.{contains_day}
-use Rattle.timetable_arcs.specs.declared.trips.Instance.{Instance}
-use Rattle.timetable_arcs.specs.Trips.{TripLists}
-use Rattle.timetable_arcs.specs.TripRules.{calls_of}
-use Rattle.timetable_arcs.specs.Patterns.{no_trip}
-use Rattle.timetable_arcs.specs.inside.Sorting.{runs_below, runs_from}
+use Rattle.plan_base.proofs.Common.{◌≡◌, ℕ, ◌+◌, ◌*◌, ◌<◌, ◌≤◌, ◌&&◌, List, [], ◌∷◌, length, Some, true, false, Bool, cond, nat_lt, nat_eq, refl, ap, sym, ◌∙◌, arith, suc, zero, get_or, slice_get, slice_index_or, Contains, All, sum_by, ltb-true, ltb-false, lt-ltb, le-ltb, eqb-true, eqb-false, eq-eqb, sum_by-cons, sum_by-append, get_or-le-sum_by, same_Some, none-some}
+use Rattle.plan_base.specs.{DaySet, contains_day}
+use Rattle.timetable_arcs.specs.{Instance, TripLists, calls_of, no_trip, inside.runs_below, inside.runs_from}
 
 -- some element has a part in a sum that is not 0
 pub some_part : {X : Type 0} (f : X → ℕ) (xs : List X) (d : X) → 0 < sum_by f xs → (k : ℕ) × (k < length xs) × (0 < f (get_or xs k d))

@@ -1,8 +1,6 @@
 -- Days and their numbers.
-use Rattle.std.proofs.Common.{◌≡◌, ℕ, ◌<◌, ◌≤◌, ◌^◌, ◌/◌, ◌*◌, nat_lt, nat_eq, Bool, true, false, arith, refl, lit<}
-use Rattle.std.proofs.Math.Nat.{div-eq_of_lt, div-lt_iff_lt-mul, pow-le-pow_right}
-use Rattle.std.proofs.lemmas.Nat.{pow_pos}
-use Rattle.std.proofs.lemmas.Bool.{ltb-true, ltb-false, lt-ltb, eqb-true, eq-eqb}
+use Rattle.plan_base.proofs.Common.{◌≡◌, ℕ, ◌<◌, ◌≤◌, ◌^◌, ◌/◌, ◌*◌, nat_lt, nat_eq, Bool, true, false, arith, refl, lit<, div-eq_of_lt, pow-le-pow_right, pow_pos, ltb-true, ltb-false, lt-ltb, eqb-true, eq-eqb}
+use Rattle.std.proofs.Common.{div-lt_iff_lt-mul}
 
 pub quotient_below : (n k : ℕ) → nat_eq (n / 2 ^ k) 0 ≡ nat_lt n (2 ^ k)
 quotient_below n k = by_test (nat_lt n (2 ^ k)) refl (nat_eq (n / 2 ^ k) 0) refl

@@ -1,14 +1,7 @@
 -- The runs of all trips, day by day.
-use Rattle.std.proofs.Common.{◌≡◌, ℕ, zero, suc, ◌+◌, ◌<◌, List, [], ◌∷◌, ◌++◌, length, cond, Bool, true, false, refl, ap, ◌∙◌, get_or, arith}
-use Rattle.std.specs.Prelude.{sum_by, IsPermutation}
-use Rattle.std.specs.List.{range_with_len}
-use Rattle.std.proofs.lemmas.List.Sums.{sum_by-append}
-use Rattle.std.proofs.lemmas.List.Sorted.{sum_by-IsPermutation}
-use Rattle.plan_base.specs.DaySets.{contains_day}
-use Rattle.timetable_arcs.specs.declared.trips.Instance.{Instance}
-use Rattle.timetable_arcs.specs.Trips.{TripLists}
-use Rattle.timetable_arcs.specs.Patterns.{no_trip}
-use Rattle.timetable_arcs.specs.inside.Sorting.{runs_below, runs_from, weight_on}
+use Rattle.plan_base.proofs.Common.{◌≡◌, ℕ, zero, suc, ◌+◌, ◌<◌, List, [], ◌∷◌, ◌++◌, length, cond, Bool, true, false, refl, ap, ◌∙◌, get_or, arith, sum_by, IsPermutation, range_with_len, sum_by-append, sum_by-IsPermutation}
+use Rattle.plan_base.specs.{contains_day}
+use Rattle.timetable_arcs.specs.{Instance, TripLists, no_trip, inside.runs_below, inside.runs_from, inside.weight_on}
 
 -- one number more
 pub range_more : (a n : ℕ) → range_with_len a (n + 1) ≡ range_with_len a n ++ (a + n) ∷ []

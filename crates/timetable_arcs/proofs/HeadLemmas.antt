@@ -1,12 +1,6 @@
 -- Trips that have the same head are alike.
-use Rattle.std.proofs.Common.{◌≡◌, ℕ, ◌+◌, ◌<◌, List, [], ◌∷◌, Some, zero, suc, inl, inr, refl, sym, ◌∙◌, ap, subst, arith}
-use Rattle.std.proofs.lemmas.List.{get_or_past}
-use Rattle.std.proofs.lemmas.Option.{get_or_from_slice_get, slice_get_cases}
-use Rattle.std.specs.List.{range_with_len}
-use Rattle.std.specs.Prelude.{◌⊎◌, slice_get, slice_index_or, slice_set}
-use Rattle.timetable_arcs.specs.Trips.{TripLists}
-use Rattle.timetable_arcs.specs.Patterns.{plain_table, trip_at, AreAlike}
-use Rattle.timetable_arcs.specs.inside.Sorting.{AreHeads, HaveSameHead}
+use Rattle.plan_base.proofs.Common.{◌≡◌, ℕ, ◌+◌, ◌<◌, List, [], ◌∷◌, Some, zero, suc, inl, inr, refl, sym, ◌∙◌, ap, subst, arith, get_or_past, get_or_from_slice_get, slice_get_cases, range_with_len, ◌⊎◌, slice_get, slice_index_or, slice_set}
+use Rattle.timetable_arcs.specs.{TripLists, plain_table, trip_at, AreAlike, inside.AreHeads, inside.HaveSameHead}
 use Rattle.timetable_arcs.proofs.PatternLemmas.{alike_itself}
 
 -- trips that one trip is alike are alike

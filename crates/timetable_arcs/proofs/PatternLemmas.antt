@@ -1,18 +1,8 @@
 -- Patterns as runs are put into them.
-use Rattle.std.proofs.Common.{◌≡◌, ℕ, zero, suc, replicate, ◌+◌, ◌-◌, ◌<◌, List, [], ◌∷◌, ◌++◌, length, refl, ap, sym, subst, ◌∙◌, arith, Bool, true, false, nat_lt, set, get_or}
-use Rattle.std.specs.Prelude.{All, sum_by, slice_index_or, slice_set}
-use Rattle.std.proofs.Math.Nat.{le_trans, lt_trans}
-use Rattle.std.proofs.lemmas.Bool.{ltb-true, ltb-false}
-use Rattle.std.proofs.lemmas.Option.{none-some}
-use Rattle.std.proofs.lemmas.List.{get_or_default, get_or_append_left, get_or-replicate, get_or_past, length-replicate, length_push}
-use Rattle.std.proofs.lemmas.List.Elements.{All-push, All-set}
-use Rattle.std.proofs.lemmas.List.Quantifiers.{all_pairs_push}
-use Rattle.std.proofs.lemmas.List.Sums.{sum_by-set, sum_by_push}
-use Rattle.timetable_arcs.specs.declared.trips.Instance.{Instance}
-use Rattle.timetable_arcs.specs.declared.patterns.LastPut.{LastPut}
-use Rattle.timetable_arcs.specs.Trips.{TripLists}
-use Rattle.timetable_arcs.specs.Patterns.{TableLists, trip_at, no_run, AreAlike, IsBehind}
-use Rattle.timetable_arcs.specs.inside.Sorting.{IsPattern, MayJoinPattern, AreCallsBehind, AreLastPuts, IsBehindNoted, nothing_put, sum_all}
+use Rattle.plan_base.proofs.Common.{◌≡◌, ℕ, zero, suc, replicate, ◌+◌, ◌-◌, ◌<◌, List, [], ◌∷◌, ◌++◌, length, refl, ap, sym, subst, ◌∙◌, arith, Bool, true, false, nat_lt, set, get_or, All, sum_by, slice_index_or, slice_set, le_trans, ltb-true, ltb-false, none-some, get_or_default, get_or_append_left, get_or-replicate, get_or_past, length-replicate, length_push, All-push, all_pairs_push, sum_by-set, sum_by_push}
+use Rattle.std.proofs.Common.{lt_trans}
+use Rattle.std.proofs.lemmas.List.Elements.{All-set}
+use Rattle.timetable_arcs.specs.{Instance, TripLists, TableLists, trip_at, no_run, AreAlike, IsBehind, declared.patterns.LastPut.LastPut, inside.IsPattern, inside.MayJoinPattern, inside.AreCallsBehind, inside.AreLastPuts, inside.IsBehindNoted, inside.nothing_put, inside.sum_all}
 
 pub alike_itself : (t : TableLists) (place : ℕ) → AreAlike (trip_at t place) (trip_at t place)
 alike_itself t place = record { letter = refl; calls = refl; each = λ k d lt. record { stop = refl; board = refl; alight = refl } }

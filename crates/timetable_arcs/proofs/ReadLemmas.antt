@@ -1,18 +1,7 @@
 -- What is read from a timetable's fields, as its lists.
-use Rattle.std.proofs.Common.{◌≡◌, ℕ, ◌<◌, ◌≤◌, ◌-◌, List, [], length, Some, None, nat_le, true, false, refl, ap, subst, sym, ◌∙◌, arith, get_or}
-use Rattle.std.specs.Prelude.{find, slice_get}
-use Rattle.std.specs.List.Sorted.{IsNonDecreasingBy, IsPartitionedBy, IsPartitionPoint}
-use Rattle.std.proofs.lemmas.List.Sorted.{IsPartitionedBy-leb}
-use Rattle.std.proofs.lemmas.List.{get_or_default}
-use Rattle.timetable_arcs.specs.declared.trips.Instance.{Instance}
-use Rattle.timetable_arcs.specs.Trips.{TripLists}
-use Rattle.timetable_arcs.specs.Patterns.{TableLists, plain_table, runs_of, pattern_trip, next_run, last_run, last_arrived, arrives, departs}
-use Rattle.timetable_arcs.specs.declared.rides.Board.{Board}
-use Rattle.timetable_arcs.specs.Rides.{alights, rides_at, boards_at}
-use Rattle.timetable_arcs.specs.RideTables.{BoardLists, nothing_held, rides_end, AreBoards, AreAlightPlaces}
-use Rattle.timetable_arcs.specs.Table.{IsTable}
-use Rattle.timetable_arcs.proofs.RideLemmas.{IsRideFound, ride_found, ride_to, no_board, boards_rise}
-use Rattle.timetable_arcs.proofs.TableLemmas.{departs_rise, arrives_rise, ride_fits}
+use Rattle.plan_base.proofs.Common.{◌≡◌, ℕ, ◌<◌, ◌≤◌, ◌-◌, List, [], length, Some, None, nat_le, true, false, refl, ap, subst, sym, ◌∙◌, arith, get_or, find, slice_get, IsNonDecreasingBy, IsPartitionedBy, IsPartitionPoint, IsPartitionedBy-leb, get_or_default}
+use Rattle.timetable_arcs.specs.{Instance, TripLists, TableLists, plain_table, runs_of, pattern_trip, next_run, last_run, last_arrived, arrives, departs, Board, alights, rides_at, boards_at, BoardLists, nothing_held, rides_end, AreBoards, AreAlightPlaces, IsTable}
+use Rattle.timetable_arcs.proofs.{RideLemmas.IsRideFound, RideLemmas.ride_found, RideLemmas.ride_to, RideLemmas.no_board, RideLemmas.boards_rise, TableLemmas.departs_rise, TableLemmas.arrives_rise, TableLemmas.ride_fits}
 
 -- a read by an index, at any default
 pub read_at : {X : Type 0} (xs : List X) (k : ℕ) (x y d : X) → k < length xs → x ≡ get_or xs k x → y ≡ x → y ≡ get_or xs k d

@@ -1,24 +1,9 @@
 -- The rides at a stop: from which board each is, and where it ends.
-use Rattle.std.proofs.Common.{◌≡◌, ℕ, ◌+◌, ◌-◌, ◌*◌, ◌<◌, ◌≤◌, ◌&&◌, List, [], ◌∷◌, ◌++◌, length, Some, true, false, Bool, cond, nat_lt, nat_le, nat_eq, map, take, drop, refl, ap, sym, subst, ◌∙◌, arith, suc, zero, get_or, length-append}
-use Rattle.std.specs.Prelude.{slice_get, slice_index_or, Contains, All, sum_by}
-use Rattle.std.specs.List.{flat_map}
-use Rattle.std.specs.List.Sorted.{IsPartitionPoint, IsNonDecreasingBy}
-use Rattle.std.proofs.Math.Nat.{le_refl}
-use Rattle.std.proofs.lemmas.Bool.{ltb-true, ltb-false, leb-true, leb-false, eqb-true, eqb-false, eq-eqb}
-use Rattle.std.proofs.lemmas.List.{length-map, length-drop, drop-drop, get_or-drop, get_or-map, get_or-append-add, take_more, take_all, take-take}
-use Rattle.std.proofs.lemmas.List.Concat.{flat_map-append, get_or-flat_map, length-flat_map}
-use Rattle.std.proofs.lemmas.List.Elements.{All-cons, All-nil, All-append, All-map, All-weaker, Contains-append_left, Contains-append_right}
-use Rattle.std.proofs.lemmas.List.Sums.{sum_by-cons, sum_by-take-le, count_by-le-length}
-use Rattle.std.proofs.lemmas.Option.{slice_get-get_or, slice_get_past}
-use Rattle.timetable_arcs.specs.declared.trips.Call.{Call}
-use Rattle.timetable_arcs.specs.declared.trips.Instance.{Instance}
-use Rattle.timetable_arcs.specs.declared.rides.Board.{Board}
-use Rattle.timetable_arcs.specs.declared.rides.Ride.{Ride}
-use Rattle.timetable_arcs.specs.Patterns.{TableLists, trip_at, runs_of, pattern_trip, no_run, no_call}
-use Rattle.timetable_arcs.specs.Rides.{alights, rides_along, rides_from, rides_at, boards_along, boards_from, boards_at, IsRideAt}
-use Rattle.timetable_arcs.specs.RideTables.{end_at, rides_end}
-use Rattle.timetable_arcs.proofs.BoardLemmas.{length-alights}
-use Rattle.timetable_arcs.proofs.TripLemmas.{both_true}
+use Rattle.plan_base.proofs.Common.{◌≡◌, ℕ, ◌+◌, ◌-◌, ◌*◌, ◌<◌, ◌≤◌, ◌&&◌, List, [], ◌∷◌, ◌++◌, length, Some, true, false, Bool, cond, nat_lt, nat_le, nat_eq, map, take, drop, refl, ap, sym, subst, ◌∙◌, arith, suc, zero, get_or, length-append, slice_get, slice_index_or, Contains, All, sum_by, flat_map, IsPartitionPoint, IsNonDecreasingBy, le_refl, ltb-true, ltb-false, leb-true, leb-false, eqb-true, eqb-false, eq-eqb, length-map, length-drop, drop-drop, get_or-drop, get_or-map, get_or-append-add, take_more, take_all, flat_map-append, length-flat_map, All-cons, All-nil, All-append, All-map, All-weaker, Contains-append_left, Contains-append_right, sum_by-cons, sum_by-take-le, count_by-le-length, slice_get-get_or, slice_get_past}
+use Rattle.std.proofs.Common.{take-take}
+use Rattle.std.proofs.lemmas.List.Concat.{get_or-flat_map}
+use Rattle.timetable_arcs.specs.{Call, Instance, Board, Ride, TableLists, trip_at, runs_of, pattern_trip, no_run, no_call, alights, rides_along, rides_from, rides_at, boards_along, boards_from, boards_at, IsRideAt, end_at, rides_end}
+use Rattle.timetable_arcs.proofs.{BoardLemmas.length-alights, TripLemmas.both_true}
 
 abbrev pub ride_to : ℕ → ℕ → ℕ → Ride
 ride_to pattern board alight = record { pattern = pattern; board = board; alight = alight }

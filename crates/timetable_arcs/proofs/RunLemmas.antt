@@ -1,17 +1,7 @@
 -- The runs of a pattern in turn, and what is found among them.
-use Rattle.std.proofs.Common.{◌≡◌, ℕ, suc, zero, cond, take, ◌-◌, ◌<◌, ◌≤◌, List, [], ◌∷◌, length, Option, Some, None, true, false, Bool, nat_lt, nat_le, refl, ap, sym, subst, ◌∙◌, ◌⊎◌, inl, inr, arith}
-use Rattle.std.specs.Prelude.{slice_get, slice_index_or, Contains, find}
-use Rattle.std.specs.List.{position_or_len}
-use Rattle.std.specs.List.Sorted.{IsPartitionPoint, IsNonDecreasingBy}
-use Rattle.std.proofs.Math.Nat.{le_refl}
-use Rattle.std.proofs.lemmas.Bool.{ltb-true, ltb-false, lt-ltb, le-ltb, leb-true, le-leb}
-use Rattle.std.proofs.lemmas.Option.{slice_get_within, get_or_from_slice_get, slice_get_cases, same_Some, none-some}
-use Rattle.std.proofs.lemmas.List.{get_or_default, get_or_past}
+use Rattle.plan_base.proofs.Common.{◌≡◌, ℕ, suc, zero, cond, take, ◌-◌, ◌<◌, ◌≤◌, List, [], ◌∷◌, length, Option, Some, None, true, false, Bool, nat_lt, nat_le, refl, ap, sym, subst, ◌∙◌, ◌⊎◌, inl, inr, arith, slice_get, slice_index_or, Contains, find, position_or_len, IsPartitionPoint, IsNonDecreasingBy, le_refl, ltb-true, ltb-false, lt-ltb, le-ltb, leb-true, le-leb, slice_get_within, get_or_from_slice_get, slice_get_cases, same_Some, none-some, get_or_default, get_or_past, fails_before_first, passes_at_first, position_or_len_is}
 use Rattle.std.proofs.lemmas.List.Folds.{find_at}
-use Rattle.std.proofs.lemmas.List.Sums.{fails_before_first, passes_at_first, position_or_len_is}
-use Rattle.timetable_arcs.specs.declared.trips.Instance.{Instance}
-use Rattle.timetable_arcs.specs.inside.Sorting.{IsFirstFrom}
-use Rattle.timetable_arcs.specs.Patterns.{TableLists, trip_at, runs_of, pattern_trip, arrives, departs, last_arrived, IsIn, IsBehind, ArePatterns}
+use Rattle.timetable_arcs.specs.{Instance, TableLists, trip_at, runs_of, pattern_trip, arrives, departs, last_arrived, IsIn, IsBehind, ArePatterns, inside.IsFirstFrom}
 
 -- where a search finds an element: the test passes there, and fails before
 pub record IsFoundAt {X : Type 0} (test : X → Bool) (xs : List X) (x : X) (k : ℕ) : Type 0 where

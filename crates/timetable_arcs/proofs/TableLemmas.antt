@@ -1,23 +1,7 @@
 -- What follows for a timetable from its rules: which runs `next_run` finds, and where rides are.
-use Rattle.std.proofs.Common.{◌≡◌, ℕ, ◌^◌, ◌<◌, ◌≤◌, List, [], length, Option, Some, None, true, false, Bool, nat_lt, nat_le, refl, ap, sym, subst, ◌∙◌, ◌⊎◌, inl, inr, arith, lit<}
-use Rattle.std.specs.Prelude.{slice_get, slice_index_or, slice_index, Contains, All}
-use Rattle.std.specs.List.{position_or_len}
-use Rattle.std.proofs.Math.Nat.{le_trans}
-use Rattle.std.proofs.lemmas.Bool.{ltb-true, ltb-false, leb-true, leb-false, le-leb}
-use Rattle.timetable_arcs.specs.declared.trips.Call.{Call}
-use Rattle.timetable_arcs.specs.declared.trips.Instance.{Instance}
-use Rattle.timetable_arcs.specs.declared.rides.Ride.{Ride}
-use Rattle.timetable_arcs.specs.Patterns.{TableLists, trip_at, runs_of, pattern_trip, arrives, departs, next_run, last_run, no_run, no_trip, no_call, IsIn}
-use Rattle.timetable_arcs.specs.Rides.{rides_at, IsRideAt}
-use Rattle.std.specs.List.Sorted.{IsNonDecreasingBy}
-use Rattle.timetable_arcs.specs.Runs.{IsNextRun, IsLastBy, IsLastRun}
-use Rattle.timetable_arcs.specs.Table.{IsTable}
-use Rattle.std.proofs.lemmas.List.{get_or_past, get_or_default}
-use Rattle.std.proofs.lemmas.List.Elements.{Contains-get_or, All-from_get_or}
-use Rattle.std.proofs.lemmas.Option.{slice_get_within, slice_get-get_or, get_or_from_slice_get, none-some}
-use Rattle.timetable_arcs.proofs.RideLemmas.{all_fit, each_there, at_few}
-use Rattle.timetable_arcs.proofs.TripLemmas.{IsKeptTrip, trips_kept, trip_well, trip_short, known_stops, on_from, on_later, both_true, sum_at_least}
-use Rattle.timetable_arcs.proofs.RunLemmas.{found_at, found_nowhere, found_no_later, in_order, IsNoLater, last_is, last_none, IsLastPassing, NonePasses}
+use Rattle.plan_base.proofs.Common.{◌≡◌, ℕ, ◌^◌, ◌<◌, ◌≤◌, List, [], length, Option, Some, None, true, false, Bool, nat_lt, nat_le, refl, ap, sym, subst, ◌∙◌, ◌⊎◌, inl, inr, arith, lit<, slice_get, slice_index_or, slice_index, Contains, All, position_or_len, le_trans, ltb-true, ltb-false, leb-true, leb-false, le-leb, IsNonDecreasingBy, get_or_past, get_or_default, Contains-get_or, All-from_get_or, slice_get_within, slice_get-get_or, get_or_from_slice_get, none-some}
+use Rattle.timetable_arcs.specs.{Call, Instance, Ride, TableLists, trip_at, runs_of, pattern_trip, arrives, departs, next_run, last_run, no_run, no_trip, no_call, IsIn, rides_at, IsRideAt, IsNextRun, IsLastBy, IsLastRun, IsTable}
+use Rattle.timetable_arcs.proofs.{RideLemmas.all_fit, RideLemmas.each_there, RideLemmas.at_few, TripLemmas.IsKeptTrip, TripLemmas.trips_kept, TripLemmas.trip_well, TripLemmas.trip_short, TripLemmas.known_stops, TripLemmas.on_from, TripLemmas.on_later, TripLemmas.both_true, TripLemmas.sum_at_least, RunLemmas.found_at, RunLemmas.found_nowhere, RunLemmas.found_no_later, RunLemmas.in_order, RunLemmas.IsNoLater, RunLemmas.last_is, RunLemmas.last_none, RunLemmas.IsLastPassing, RunLemmas.NonePasses}
 
 module _ (t : TableLists) (table : IsTable t) where
   pub next_is : (p call time : ℕ) (run : Instance) → next_run t p call time ≡ Some run → IsIn t p run × (time ≤ departs t run call)

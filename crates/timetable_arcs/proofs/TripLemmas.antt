@@ -1,18 +1,6 @@
 -- What follows for each trip from that trips break no rule.
-use Rattle.std.proofs.Common.{◌≡◌, ℕ, ◌+◌, ◌*◌, ◌^◌, ◌<◌, ◌≤◌, ◌&&◌, List, [], ◌∷◌, length, Option, Some, None, true, false, Bool, cond, nat_lt, nat_le, refl, ap, sym, arith, lit≤, suc, zero, not}
-use Rattle.std.specs.Prelude.{slice_index_or, All, sum_by}
-use Rattle.std.specs.List.{position_or_len}
-use Rattle.std.proofs.lemmas.Bool.{ltb-true, ltb-false, leb-true}
-use Rattle.std.proofs.lemmas.Option.{none-some}
-use Rattle.std.proofs.lemmas.List.{get_or_past}
-use Rattle.std.proofs.lemmas.List.Elements.{All-cons}
-use Rattle.std.proofs.lemmas.List.Sums.{AllPass-from_list_all, get_or-le-sum_by, sum_by-cons, fails_before_first}
-use Rattle.timetable_arcs.specs.declared.trips.Call.{Call}
-use Rattle.timetable_arcs.specs.declared.faults.TableFault.{TableFault}
-use Rattle.timetable_arcs.specs.declared.faults.TableFault.TheVariants.{TimeGoesBack, BadTrip}
-use Rattle.timetable_arcs.specs.Trips.{TripLists}
-use Rattle.timetable_arcs.specs.TripRules.{is_early, is_trip, goes_on, unknown_stop, later_fault, trip_fault, or_later, trips_fault, AreTrips}
-use Rattle.timetable_arcs.specs.Patterns.{no_trip}
+use Rattle.plan_base.proofs.Common.{◌≡◌, ℕ, ◌+◌, ◌*◌, ◌^◌, ◌<◌, ◌≤◌, ◌&&◌, List, [], ◌∷◌, length, Option, Some, None, true, false, Bool, cond, nat_lt, nat_le, refl, ap, sym, arith, lit≤, suc, zero, not, slice_index_or, All, sum_by, position_or_len, ltb-true, ltb-false, leb-true, none-some, get_or_past, All-cons, AllPass-from_list_all, get_or-le-sum_by, sum_by-cons, fails_before_first}
+use Rattle.timetable_arcs.specs.{Call, TableFault, TimeGoesBack, BadTrip, TripLists, is_early, is_trip, goes_on, unknown_stop, later_fault, trip_fault, or_later, trips_fault, AreTrips, no_trip}
 
 pub both_true : (a b : Bool) → a && b ≡ true → (a ≡ true) × (b ≡ true)
 both_true true true e = (refl, refl)

@@ -1,8 +1,7 @@
 -- How the runs of a timetable are sorted into patterns, along which none overtakes another.
 use Rattle.std.specs.Prelude.{◌≡◌, ℕ, ◌<◌, ◌≤◌, false, List, [], ◌∷◌, length, Option, Some, None, Contains, AllPairs, find, nat_le, slice_index_or, if◌then◌else◌}
-use Rattle.timetable_arcs.specs.declared.trips.Call.{Call}
-use Rattle.timetable_arcs.specs.declared.trips.Instance.{Instance}
-use Rattle.timetable_arcs.specs.Trips.{TripLists, IsRunOf, arrival_of, departure_of}
+use Rattle.timetable_arcs.specs.{declared.trips.Call.Call, Trips.TripLists, Trips.IsRunOf, Trips.arrival_of, Trips.departure_of}
+pub use Rattle.timetable_arcs.specs.declared.trips.Instance.{Instance}
 
 -- the bases of the days, how many stops there are, the trips, and of each pattern its runs in order
 pub record TableLists : Type 0 where

@@ -1,10 +1,7 @@
 -- The rides that begin at a stop.
 use Rattle.std.specs.Prelude.{◌≡◌, ℕ, ◌+◌, ◌<◌, true, slice_index_or, ◌&&◌, ◌==◌, List, [], ◌∷◌, ◌++◌, length, map, if◌then◌else◌}
-use Rattle.timetable_arcs.specs.declared.trips.Call.{Call}
-use Rattle.timetable_arcs.specs.declared.trips.Instance.{Instance}
-use Rattle.timetable_arcs.specs.declared.rides.Board.{Board}
-use Rattle.timetable_arcs.specs.declared.rides.Ride.{Ride}
-use Rattle.timetable_arcs.specs.Patterns.{TableLists, pattern_trip, no_call}
+use Rattle.timetable_arcs.specs.{declared.trips.Call.Call, declared.trips.Instance.Instance, Patterns.TableLists, Patterns.pattern_trip, Patterns.no_call}
+pub use Rattle.timetable_arcs.specs.{declared.rides.Board.Board, declared.rides.Ride.Ride}
 
 -- the places of the calls at which one may alight, counted from k
 abbrev pub alights : ℕ → List Call → List ℕ

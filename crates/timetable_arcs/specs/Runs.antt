@@ -1,7 +1,6 @@
 -- What finds a run of a pattern answers.
 use Rattle.std.specs.Prelude.{ℕ, ◌<◌, ◌≤◌, Option, Some, None}
-use Rattle.timetable_arcs.specs.declared.trips.Instance.{Instance}
-use Rattle.timetable_arcs.specs.Patterns.{TableLists, arrives, departs, IsIn}
+use Rattle.timetable_arcs.specs.{declared.trips.Instance.Instance, Patterns.TableLists, Patterns.arrives, Patterns.departs, Patterns.IsIn}
 
 -- of the runs of a pattern that depart at a call at a time or later, the one that departs first, if there is one
 pub record IsFirstFrom (t : TableLists) (p call time : ℕ) (run : Instance) : Type 0 where

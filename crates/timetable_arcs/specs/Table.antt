@@ -1,7 +1,6 @@
 -- What each timetable keeps.
 use Rattle.std.specs.Prelude.{◌<◌, ◌≤◌, ◌^◌, List, ℕ, length, All, AllPairs, sum_by, slice_index_or}
-use Rattle.timetable_arcs.specs.TripRules.{AreTrips}
-use Rattle.timetable_arcs.specs.Patterns.{TableLists, ArePatterns, trip_at, no_run}
+use Rattle.timetable_arcs.specs.{TripRules.AreTrips, Patterns.TableLists, Patterns.ArePatterns, Patterns.trip_at, Patterns.no_run}
 
 -- the bases of the days rise, and are below 2 ^ 40
 pub record AreBases (bases : List ℕ) : Type 0 where

@@ -1,12 +1,9 @@
 -- The rules that the trips of a timetable keep.
 use Rattle.std.specs.Prelude.{◌≡◌, ℕ, ◌+◌, ◌^◌, ◌≤◌, ◌&&◌, nat_lt, nat_le, Bool, true, not, List, [], ◌∷◌, length, sum_by, Option, Some, None, if◌then◌else◌, position}
 use Rattle.std.specs.List.{list_all}
-use Rattle.plan_base.specs.declared.limits.Caps.{Caps}
-use Rattle.plan_base.specs.declared.limits.Kind.TheVariants.{Trips, Calls}
-use Rattle.timetable_arcs.specs.declared.trips.Call.{Call}
-use Rattle.timetable_arcs.specs.declared.faults.TableFault.{TableFault}
-use Rattle.timetable_arcs.specs.declared.faults.TableFault.TheVariants.{TimeGoesBack, UnknownStop, BadTrip, TooMany, OutOfMemory}
-use Rattle.timetable_arcs.specs.Trips.{TripLists}
+use Rattle.plan_base.specs.{Caps, Trips, Calls}
+use Rattle.timetable_arcs.specs.{declared.trips.Call.Call, Trips.TripLists}
+pub use Rattle.timetable_arcs.specs.{declared.faults.TableFault.TableFault, declared.faults.TableFault.TheVariants.TimeGoesBack, declared.faults.TableFault.TheVariants.UnknownStop, declared.faults.TableFault.TheVariants.BadTrip, declared.faults.TableFault.TheVariants.TooMany, declared.faults.TableFault.TheVariants.OutOfMemory}
 
 -- less than 168 hours after the base of the day
 abbrev pub is_early : Call → Bool

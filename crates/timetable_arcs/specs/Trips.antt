@@ -1,8 +1,7 @@
 -- Trips, their runs, and when a run is where.
 use Rattle.std.specs.Prelude.{◌≡◌, ℕ, ◌+◌, ◌*◌, ◌<◌, true, List, Some, slice_get, slice_index}
-use Rattle.plan_base.specs.declared.days.DaySet.{DaySet}
-use Rattle.plan_base.specs.DaySets.{contains_day}
-use Rattle.timetable_arcs.specs.declared.trips.Call.{Call}
+use Rattle.plan_base.specs.{DaySet, contains_day}
+pub use Rattle.timetable_arcs.specs.declared.trips.Call.{Call}
 
 -- a trip: its letter, its days, its name and its calls in order
 pub record TripLists : Type 0 where

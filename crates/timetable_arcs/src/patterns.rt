@@ -4,7 +4,7 @@ ghost use Rattle.std.specs.Prelude.{◌≡◌, ◌++◌, ◌∷◌, [], List, �
 ghost use Rattle.std.specs.Bool.{OnTrue};
 ghost use Rattle.timetable_arcs.specs.declared.trips.Instance.{Instance};
 ghost use Rattle.plan_base.specs.DaySets.{contains_day};
-ghost use Rattle.timetable_arcs.specs.Patterns.{plain_table, trip_at, no_run, IsBehind};
+ghost use Rattle.timetable_arcs.specs.Patterns.{plain_table, trip_at, IsBehind};
 ghost use Rattle.timetable_arcs.specs.inside.Sorting.{AreHeads, AreLastPuts, IsBehindNoted, IsPattern, MayJoinPattern, nothing_put, sum_all, runs_from, weight_on};
 
 use crate::runs::{departs, is_behind, narrowed};

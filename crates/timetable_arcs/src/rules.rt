@@ -1,6 +1,6 @@
 //! The first rule that the trips of a timetable break.
 
-ghost use Rattle.std.specs.Prelude.{◌≡◌, ◌<◌, ◌≤◌, ◌+◌, ◌^◌, ◌&&◌, nat_lt, nat_le, not, length, All, IfSome, position};
+ghost use Rattle.std.specs.Prelude.{◌≡◌, ◌<◌, ◌+◌, ◌^◌, ◌&&◌, nat_lt, nat_le, not, length, All, IfSome, position};
 ghost use Rattle.std.specs.List.{list_all};
 ghost use Rattle.timetable_arcs.specs.TripRules.{is_early, is_trip, goes_on, unknown_stop, later_fault, trip_fault, trips_fault, calls_of, table_fault};
 

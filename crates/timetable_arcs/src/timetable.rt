@@ -1,6 +1,6 @@
 //! The timetable: trips, the patterns of their runs, and what finds a run or a ride.
 
-ghost use Rattle.std.specs.Prelude.{◌≡◌, ◌<◌, ◌≤◌, ◌+◌, ◌^◌, ℕ, [], min, Some, None, length, All, sum_by, IfOk, OnOk, IfErr, IfSome, option_map, slice_get, slice_index, slice_index_or};
+ghost use Rattle.std.specs.Prelude.{◌≡◌, ◌<◌, ◌^◌, ℕ, [], min, Some, None, length, All, sum_by, IfOk, OnOk, IfErr, IfSome, option_map, slice_get, slice_index, slice_index_or};
 ghost use Rattle.timetable_arcs.specs.declared.trips.Instance.{Instance};
 ghost use Rattle.timetable_arcs.specs.TripRules.{IsFaultOf, table_fault};
 ghost use Rattle.timetable_arcs.specs.Patterns.{plain_table, runs_of, trip_at, pattern_trip, no_run, next_run, last_run, arrives, departs};

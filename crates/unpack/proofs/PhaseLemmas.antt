@@ -1,49 +1,21 @@
 -- What is under the entries of a sound hierarchy, and the steps of a walk through its phase graph.
-use Rattle.std.proofs.Common.{◌≡◌, ℕ, zero, suc, ◌+◌, ◌-◌, ◌*◌, ◌<◌, ◌∙◌, ◌&&◌, nat_eq, Bool, true, false, List, [], ◌∷◌, ◌++◌, length, drop, get_or, Option, Some, None, refl, ap, sym, subst, append_assoc, append-nil, arith}
-use Rattle.std.specs.Prelude.{All, Contains, map, option_to_list, ◌≢◌}
+use Rattle.plan_base.proofs.Common.{◌≡◌, ℕ, zero, suc, ◌+◌, ◌-◌, ◌*◌, ◌<◌, ◌∙◌, ◌&&◌, nat_eq, Bool, true, false, List, [], ◌∷◌, ◌++◌, length, drop, get_or, Option, Some, None, refl, ap, sym, subst, append_assoc, append-nil, arith, All, Contains, map, option_to_list, ◌≢◌, ∥∥₁_map, eqb-true, eqb-false, eq-eqb, and_from, and_parts, get_or_default, map-append, All-contains, All-cons, All-nil, All-append}
 use Rattle.std.proofs.Props.{props}
-use Rattle.std.proofs.Math.Logic.{∥∥₁_elim, ∥∥₁_map}
-use Rattle.std.proofs.lemmas.Bool.{eqb-true, eqb-false, eq-eqb, and_from, and_parts}
-use Rattle.std.proofs.lemmas.List.{get_or_default, map-append}
-use Rattle.std.proofs.lemmas.List.Elements.{All-contains, All-cons, All-nil, All-append}
-use Rattle.search_laws.specs.Collapse.{collapse}
-use Rattle.search_laws.specs.GraphLaws.{GraphMeaning, HasArc}
-use Rattle.search_laws.specs.declared.graph.GraphArc.{GraphArc}
-use Rattle.timetable_arcs.specs.Patterns.{TableLists}
-use Rattle.timetable_arcs.specs.Table.{IsTable}
-use Rattle.mode_network.specs.declared.nodes.Arc.{Arc}
-use Rattle.mode_network.specs.declared.steps.Step.{Step}
-use Rattle.mode_network.specs.declared.steps.Step.TheVariants.{Road}
-use Rattle.plan_base.specs.Modes.{number_of_mode}
-use Rattle.plan_base.specs.declared.modes.Mode.{Mode}
-use Rattle.mode_network.specs.NetworkLists.{NetworkLists, letter_at, mode_at}
-use Rattle.mode_network.specs.Rules.{IsNetwork, is_same_mode, joins_modes}
-use Rattle.mode_network.specs.Timetables.{IsTimetableOf}
-use Rattle.mode_network.specs.Journeys.{Leads, AreSteps}
+use Rattle.std.proofs.Math.Logic.{∥∥₁_elim}
+use Rattle.search_laws.specs.{collapse, GraphMeaning, HasArc, GraphArc}
+use Rattle.timetable_arcs.specs.{TableLists, IsTable}
+use Rattle.mode_network.specs.{Arc, Step, letter_at, mode_at, IsNetwork, is_same_mode, joins_modes, IsTimetableOf, Leads, AreSteps, declared.steps.Step.TheVariants.Road, NetworkLists.NetworkLists}
+use Rattle.plan_base.specs.{number_of_mode, Mode}
 use Rattle.mode_network.proofs.RuleLemmas.{letter_is_road, letter_of, same_mode_is, some_is}
-use Rattle.hierarchy.specs.declared.entry.Entry.{Entry}
-use Rattle.hierarchy.specs.Hops.{Hop as RoadHop, AreHops, total}
-use Rattle.hierarchy.specs.Lists.{HierarchyLists}
-use Rattle.hierarchy.specs.Rules.{IsHierarchy}
-use Rattle.hierarchy.specs.Soundness.{HasEntry, IsSound, IsMade, IsMadeBy, FitsLayer}
-use Rattle.hierarchy.specs.Lookups.{IsEntryFor, HasNoEntry, entry_at}
-use Rattle.hierarchy.proofs.HopLemmas.{hops_then, total-append}
-use Rattle.hierarchy.proofs.LookupLemmas.{weight_once}
-use Rattle.hierarchy.proofs.RoadLemmas.{Roads, roads_under}
-use Rattle.product_search.specs.declared.label.Hop.{Hop}
-use Rattle.plain_graph.specs.PlainArcs.{plain_meaning, plain_arc, arcs_at, arrival, graph_arc, no_arc}
-use Rattle.plain_graph.specs.inside.OutArcs.{out_of}
-use Rattle.plain_graph.specs.Simulation.{step_of}
+use Rattle.hierarchy.specs.{Entry, Hop as RoadHop, AreHops, total, HierarchyLists, IsHierarchy, HasEntry, IsSound, IsMade, IsMadeBy, FitsLayer, IsEntryFor, HasNoEntry, entry_at}
+use Rattle.hierarchy.proofs.{HopLemmas.hops_then, HopLemmas.total-append, LookupLemmas.weight_once, RoadLemmas.Roads, RoadLemmas.roads_under}
+use Rattle.product_search.specs.{Hop}
+use Rattle.plain_graph.specs.{plain_meaning, plain_arc, arcs_at, arrival, graph_arc, no_arc, step_of, inside.out_of}
 use Rattle.plain_graph.proofs.Same.{step_at}
-use Rattle.phase_graph.specs.declared.phases.PhaseArc.{PhaseArc}
-use Rattle.phase_graph.specs.declared.phases.PhaseArc.TheVariants.{Other}
-use Rattle.phase_graph.specs.Arcs.{phase_node}
-use Rattle.phase_graph.specs.PhaseArcs.{phase_arc, arc_of, phase_arrival as arrives_along, node_of, is_down}
-use Rattle.phase_graph.proofs.GraphLemmas.{half}
-use Rattle.phase_graph.proofs.WordLemmas.{same_letter, again}
-use Rattle.journey.specs.Boarded.{AreOnTime}
-use Rattle.unpack.specs.Unpacking.{AreHopsIn, IsSoon, with_wait, node_after, arrival_after, letters_of}
-use Rattle.unpack.specs.PhaseUnpacking.{letters_in, IsUnpacked, GoesOn, GoesOnByArc, road_step, GoesOnByRoads, AreStillPacked, weight_of, ArePartsOf}
+use Rattle.phase_graph.specs.{PhaseArc, Other, phase_node, phase_arc, arc_of, phase_arrival as arrives_along, node_of, is_down}
+use Rattle.phase_graph.proofs.{GraphLemmas.half, WordLemmas.same_letter, WordLemmas.again}
+use Rattle.journey.specs.{AreOnTime}
+use Rattle.unpack.specs.{AreHopsIn, IsSoon, with_wait, node_after, arrival_after, letters_of, letters_in, IsUnpacked, GoesOn, GoesOnByArc, road_step, GoesOnByRoads, AreStillPacked, weight_of, ArePartsOf}
 use Rattle.unpack.proofs.UnpackLemmas.{leaves, behind, arc_soon, are_real, plain_letters}
 
 -- ---- what an entry is made of, where it is known that the hierarchy is sound
@@ -412,15 +384,6 @@ module _ (n : NetworkLists) (g : GraphMeaning) (start at : ℕ) (hops : List Hop
         ends = ap (node_after p) (sym is) ∙ way.ends;
         arrives = ap (arrival_after time) (sym is) ∙ way.arrives;
       }
-
-  -- all hops are taken
-  pub arrived : drop k hops ≡ [] → GoesOn n (node_of start) at (node_of (node_after start hops)) (arrival_after at hops) (letters_in g start hops) [] steps
-  arrived none =
-      let end : p ≡ node_after start hops = sym (ap (node_after p) none) ∙ way.ends in
-      let ended : time ≡ arrival_after at hops = sym (ap (arrival_after time) none) ∙ way.arrives in
-      let word : way.done ≡ letters_in g start hops = sym (append-nil way.done) ∙ ap (λ hs. way.done ++ letters_in g p hs) (sym none) ∙ sym way.told in
-      subst (λ x. GoesOn n (node_of start) at (node_of x) (arrival_after at hops) (letters_in g start hops) [] steps) end
-      (subst (λ x. GoesOn n (node_of start) at (node_of p) x (letters_in g start hops) [] steps) ended (subst (λ ls. GoesOn n (node_of start) at (node_of p) time ls [] steps) word way.far))
 
 -- the steps of all hops are a journey
 pub is_unpacked : (n : NetworkLists) → IsNetwork n → (table : TableLists) → IsTable table → IsTimetableOf n table → (v t w u : ℕ) (word : List ℕ) (steps : List Step) → GoesOn n v t w u word [] steps

@@ -1,30 +1,15 @@
 -- The journey of an accepted walk answers what is asked, and a journey that answers is an accepted walk, whatever automaton accepts.
-use Rattle.std.proofs.Common.{◌≡◌, ℕ, ◌^◌, ◌<◌, ◌∙◌, List, ◌∷◌, Option, Some, None, refl, sym, subst, arith}
-use Rattle.std.specs.Prelude.{slice_index_or}
-use Rattle.search_laws.specs.LabelLaws.{LabelsMeaning, Accepts}
-use Rattle.search_laws.specs.Walks.{wait, ArrivesAt}
-use Rattle.search_laws.specs.Collapse.{collapse}
-use Rattle.product_search.specs.declared.label.Walk.{Walk}
-use Rattle.product_search.specs.Answer.{IsWalkTo, IsWalkFor}
+use Rattle.plan_base.proofs.Common.{◌≡◌, ℕ, ◌^◌, ◌<◌, ◌∙◌, List, ◌∷◌, Option, Some, None, refl, sym, subst, arith, slice_index_or}
+use Rattle.search_laws.specs.{LabelsMeaning, Accepts, wait, ArrivesAt, collapse}
+use Rattle.product_search.specs.{Walk, IsWalkTo, IsWalkFor}
 use Rattle.product_search.proofs.HopLemmas.{reads_of_hops}
-use Rattle.plain_graph.specs.PlainArcs.{plain_meaning}
-use Rattle.plain_graph.specs.Simulation.{JourneysAreWalks}
-use Rattle.mode_expression.specs.Form.{IsWordOf}
-use Rattle.timetable_arcs.specs.Patterns.{TableLists}
-use Rattle.mode_network.specs.declared.steps.Step.{Step}
-use Rattle.mode_network.specs.declared.steps.Step.TheVariants.{Wait, Road, Link, Stand, Ride}
-use Rattle.mode_network.specs.NetworkLists.{NetworkLists}
-use Rattle.mode_network.specs.Rules.{IsNetwork}
-use Rattle.mode_network.specs.Journeys.{Route, AreSteps}
-use Rattle.mode_network.specs.Copies.{IsCopy}
-use Rattle.journey.specs.Best.{Asked, Answers}
-use Rattle.journey.specs.Blocks.{IsPrintable}
-use Rattle.journey.specs.Boarded.{BoardsOnTime}
-use Rattle.journey.specs.Ends.{HasTime}
-use Rattle.journey.specs.CopyLists.{AreTheCopies}
+use Rattle.plain_graph.specs.{plain_meaning, JourneysAreWalks}
+use Rattle.mode_expression.specs.{IsWordOf}
+use Rattle.timetable_arcs.specs.{TableLists}
+use Rattle.mode_network.specs.{Step, Wait, Link, Stand, Ride, IsNetwork, Route, AreSteps, IsCopy, declared.steps.Step.TheVariants.Road, NetworkLists.NetworkLists}
+use Rattle.journey.specs.{Asked, Answers, IsPrintable, BoardsOnTime, HasTime, AreTheCopies}
 use Rattle.journey.proofs.CopyLemmas.{copy_in_range}
-use Rattle.unpack.specs.Unpacking.{IsSoon, letters_of, node_after}
-use Rattle.unpack.specs.Taken.{IsPlainWalk, TakesHops}
+use Rattle.unpack.specs.{IsSoon, letters_of, node_after, IsPlainWalk, TakesHops}
 use Rattle.unpack.proofs.UnpackLemmas.{hops_end, hops_letters, plain_hops}
 
 -- a step that is soon has a time

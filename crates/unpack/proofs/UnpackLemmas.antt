@@ -1,36 +1,15 @@
 -- The steps of a walk are a journey.
-use Rattle.std.proofs.Common.{◌≡◌, ℕ, ◌^◌, ◌<◌, ◌≤◌, ◌∙◌, cond, nat_lt, Bool, true, false, List, [], ◌∷◌, ◌++◌, Option, Some, None, refl, ap, sym, subst, arith}
-use Rattle.std.specs.Prelude.{All, option_to_list, option_map, slice_index_or}
-use Rattle.std.proofs.lemmas.Bool.{ltb-true, ltb-false}
-use Rattle.std.proofs.lemmas.Option.{get_or_from_slice_get}
-use Rattle.search_laws.specs.GraphLaws.{GraphMeaning}
-use Rattle.search_laws.specs.LabelLaws.{LabelsMeaning}
-use Rattle.search_laws.specs.Walks.{word_from}
-use Rattle.product_search.specs.Answer.{AreWalkHops}
+use Rattle.plan_base.proofs.Common.{◌≡◌, ℕ, ◌^◌, ◌<◌, ◌≤◌, ◌∙◌, cond, nat_lt, Bool, true, false, List, [], ◌∷◌, ◌++◌, Option, Some, None, refl, ap, sym, subst, arith, All, option_to_list, option_map, slice_index_or, ltb-true, ltb-false, get_or_from_slice_get, All-cons, All-append}
+use Rattle.search_laws.specs.{GraphMeaning, LabelsMeaning, word_from}
+use Rattle.product_search.specs.{AreWalkHops, Hop}
 use Rattle.product_search.proofs.HopLemmas.{arcs_of}
-use Rattle.std.proofs.lemmas.List.Elements.{All-cons, All-append}
-use Rattle.timetable_arcs.specs.declared.trips.Instance.{Instance}
-use Rattle.timetable_arcs.specs.Trips.{TripLists, departure_of}
-use Rattle.timetable_arcs.specs.Patterns.{TableLists, departs, no_trip, no_call}
-use Rattle.timetable_arcs.specs.Table.{IsTable}
+use Rattle.timetable_arcs.specs.{Instance, TripLists, departure_of, TableLists, departs, no_trip, no_call, IsTable}
 use Rattle.timetable_arcs.proofs.TableLemmas.{departs_small}
-use Rattle.mode_network.specs.declared.steps.Step.{Step}
-use Rattle.mode_network.specs.declared.steps.Step.TheVariants.{Wait, Road, Link, Stand, Ride as TakeRide}
-use Rattle.mode_network.specs.NetworkLists.{NetworkLists}
-use Rattle.mode_network.specs.Rules.{IsNetwork}
-use Rattle.mode_network.specs.Timetables.{IsTimetableOf}
-use Rattle.mode_network.specs.Journeys.{IsStep, AreSteps}
-use Rattle.journey.specs.Boarded.{AreOnTime, DepartsAt}
-use Rattle.product_search.specs.declared.label.Hop.{Hop}
-use Rattle.plain_graph.specs.declared.plain.PlainArc.{PlainArc}
-use Rattle.plain_graph.specs.declared.plain.PlainArc.TheVariants.{Road as RoadArc, Link as LinkArc, Stand as StandArc, Ride as RideArc}
-use Rattle.plain_graph.specs.PlainArcs.{plain_meaning, plain_arc, graph_arc, run_at}
-use Rattle.plain_graph.specs.Simulation.{step_of}
-use Rattle.plain_graph.specs.inside.OutArcs.{IsOut, out_of}
-use Rattle.plain_graph.specs.Rides.{alights_within, takes}
+use Rattle.mode_network.specs.{Step, Wait, Link, Stand, Ride as TakeRide, IsNetwork, IsTimetableOf, IsStep, AreSteps, declared.steps.Step.TheVariants.Road, NetworkLists.NetworkLists}
+use Rattle.journey.specs.{AreOnTime, DepartsAt}
+use Rattle.plain_graph.specs.{PlainArc, Road as RoadArc, Link as LinkArc, Stand as StandArc, Ride as RideArc, plain_meaning, plain_arc, graph_arc, run_at, step_of, alights_within, takes, inside.IsOut, inside.out_of}
 use Rattle.plain_graph.proofs.Same.{step_at}
-use Rattle.unpack.specs.PhaseUnpacking.{letters_in}
-use Rattle.unpack.specs.Unpacking.{AreHopsIn, ArePlainHops, HaveArcs, IsSoon, leaves_at, with_wait, steps_of, node_after, arrival_after, letters_of}
+use Rattle.unpack.specs.{letters_in, AreHopsIn, ArePlainHops, HaveArcs, IsSoon, leaves_at, with_wait, steps_of, node_after, arrival_after, letters_of}
 
 module _ (n : NetworkLists) (network : IsNetwork n) (table : TableLists) (keeps : IsTable table) (of : IsTimetableOf n table) where
   -- a step leaves at t or later, and can be taken then; where it is a ride, it departs then

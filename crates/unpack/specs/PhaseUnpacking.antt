@@ -1,18 +1,12 @@
 -- The journey under a walk through the phase graph.
 use Rattle.std.specs.Prelude.{◌≡◌, ℕ, ◌+◌, Bool, List, [], ◌∷◌, ◌++◌, map, Some, All, Contains, option_to_list}
-use Rattle.search_laws.specs.Collapse.{collapse}
-use Rattle.search_laws.specs.GraphLaws.{GraphMeaning}
-use Rattle.timetable_arcs.specs.Patterns.{TableLists}
-use Rattle.mode_network.specs.declared.steps.Step.{Step}
-use Rattle.mode_network.specs.declared.steps.Step.TheVariants.{Road}
-use Rattle.mode_network.specs.NetworkLists.{NetworkLists}
-use Rattle.mode_network.specs.Journeys.{Leads, AreSteps}
-use Rattle.hierarchy.specs.declared.entry.Entry.{Entry}
-use Rattle.hierarchy.specs.Hops.{Hop as RoadHop, AreHops, total}
-use Rattle.hierarchy.specs.Lists.{HierarchyLists}
-use Rattle.product_search.specs.declared.label.Hop.{Hop}
-use Rattle.phase_graph.specs.PhaseArcs.{phase_meaning, node_of}
-use Rattle.journey.specs.Boarded.{AreOnTime}
+use Rattle.search_laws.specs.{collapse, GraphMeaning}
+use Rattle.timetable_arcs.specs.{TableLists}
+use Rattle.mode_network.specs.{Step, Leads, AreSteps, declared.steps.Step.TheVariants.Road, NetworkLists.NetworkLists}
+use Rattle.hierarchy.specs.{Entry, Hop as RoadHop, AreHops, total, HierarchyLists}
+use Rattle.product_search.specs.{Hop}
+use Rattle.phase_graph.specs.{phase_meaning, node_of}
+use Rattle.journey.specs.{AreOnTime}
 use Rattle.unpack.specs.Unpacking.{IsSoon}
 
 -- the letters of hops through a graph, from v on

@@ -1,10 +1,9 @@
 -- The journey of a walk that a search found through the graph of a network.
 use Rattle.std.specs.Prelude.{◌≡◌, Option, Some, None, All}
-use Rattle.timetable_arcs.specs.Patterns.{TableLists}
-use Rattle.mode_network.specs.NetworkLists.{NetworkLists}
-use Rattle.mode_network.specs.Journeys.{Route, AreSteps}
-use Rattle.product_search.specs.declared.label.Walk.{Walk}
-use Rattle.journey.specs.Boarded.{AreOnTime}
+use Rattle.timetable_arcs.specs.{TableLists}
+use Rattle.mode_network.specs.{NetworkLists.NetworkLists, Route, AreSteps}
+use Rattle.product_search.specs.{Walk}
+use Rattle.journey.specs.{AreOnTime}
 use Rattle.unpack.specs.Unpacking.{ArePlainHops, IsSoon, node_after, arrival_after, letters_of}
 
 -- a walk that was found, if there is one, is one of the network's graph

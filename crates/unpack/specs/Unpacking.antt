@@ -1,13 +1,10 @@
 -- The journey of a walk through the graph of a network.
 use Rattle.std.specs.Prelude.{◌≡◌, ℕ, ◌<◌, ◌^◌, nat_lt, List, [], ◌∷◌, ◌++◌, Option, Some, None, option_to_list, if◌then◌else◌}
-use Rattle.search_laws.specs.GraphLaws.{GraphMeaning, HasArc}
-use Rattle.timetable_arcs.specs.Patterns.{TableLists, departs}
-use Rattle.mode_network.specs.declared.steps.Step.{Step}
-use Rattle.mode_network.specs.declared.steps.Step.TheVariants.{Wait, Road, Link, Stand, Ride}
-use Rattle.mode_network.specs.NetworkLists.{NetworkLists}
-use Rattle.product_search.specs.declared.label.Hop.{Hop}
-use Rattle.plain_graph.specs.PlainArcs.{plain_meaning, plain_arc, graph_arc}
-use Rattle.plain_graph.specs.Simulation.{step_of}
+use Rattle.search_laws.specs.{GraphMeaning, HasArc}
+use Rattle.timetable_arcs.specs.{TableLists, departs}
+use Rattle.mode_network.specs.{Step, Wait, Link, Stand, Ride, declared.steps.Step.TheVariants.Road, NetworkLists.NetworkLists}
+use Rattle.product_search.specs.{Hop}
+use Rattle.plain_graph.specs.{plain_meaning, plain_arc, graph_arc, step_of}
 
 -- the hops are a walk of a graph from v at t, each taken when the one before it arrives
 abbrev pub AreHopsIn : GraphMeaning → ℕ → ℕ → List Hop → Type 0

@@ -1,15 +1,7 @@
 -- The way back from a node that is reached.
-use Rattle.std.proofs.Common.{◌≡◌, ◌≢◌, ℕ, ◌+◌, ◌<◌, ◌≤◌, List, [], ◌∷◌, ◌++◌, ◌∙◌, get_or, Some, None, refl, sym, ap, subst, arith}
-use Rattle.std.specs.Prelude.{Option, reverse, slice_get, Vec}
-use Rattle.std.specs.declared.alloc.Global.{Global}
-use Rattle.std.proofs.lemmas.Option.{get_or_from_slice_get}
-use Rattle.std.proofs.lemmas.List.{reverse-append}
-use Rattle.witness.specs.declared.edge.Edge.{Edge}
-use Rattle.witness.specs.declared.place.Place.{Place}
-use Rattle.witness.specs.declared.workspace.Workspace.{Workspace}
-use Rattle.hierarchy.specs.Hops.{Hop, AreHops, total, nodes_along}
-use Rattle.witness.specs.Rows.{HasEdge, AreEdgeRows}
-use Rattle.witness.specs.inside.Searching.{IsSearch, NobodyBusy, IsKnownNode, Knows, Reaches, HasParent}
+use Rattle.plan_base.proofs.Common.{◌≡◌, ◌≢◌, ℕ, ◌+◌, ◌<◌, ◌≤◌, List, [], ◌∷◌, ◌++◌, ◌∙◌, get_or, Some, None, sym, ap, subst, arith, Option, reverse, slice_get, Vec, Global, get_or_from_slice_get, reverse-append}
+use Rattle.witness.specs.{Edge, HasEdge, AreEdgeRows, declared.place.Place.Place, declared.workspace.Workspace.Workspace, inside.IsSearch, inside.NobodyBusy, inside.IsKnownNode, inside.Knows, inside.HasParent}
+use Rattle.hierarchy.specs.{Hop, AreHops, total, nodes_along}
 
 abbrev pub at_in : Option Place → ℕ
 at_in None = 0
@@ -29,15 +21,6 @@ pub record IsBack (rows : List (Vec Edge Global)) (limit : ℕ) (w : Workspace) 
 
 at_is : (w : Workspace) (v at parent : ℕ) → Knows w v at parent → at_of w v ≡ at
 at_is w v at parent known = ap at_in known
-
-pub back_begins : (rows : List (Vec Edge Global)) (limit : ℕ) (w : Workspace) (v : ℕ) (nodes : List ℕ) → Reaches w v limit → nodes ≡ v ∷ [] → IsBack rows limit w v v nodes
-back_begins rows limit w v nodes r is = record {
-  known = (r.at, r.parent, r.known);
-  hops = [];
-  walk = refl;
-  within = (let le = r.within in omega (arith, at_is w v r.at r.parent r.known));
-  are = ap reverse is;
-}
 
 -- one node further back
 module _ (rows : List (Vec Edge Global)) (most limit : ℕ) (w : Workspace) (are : AreEdgeRows rows) (s : IsSearch rows most NobodyBusy w) (end node : ℕ) (nodes : List ℕ) (back : IsBack rows limit w end node nodes) (other : node ≢ w.start)

@@ -1,6 +1,5 @@
 -- What a list contains, and what is at a place once one is set.
-use Rattle.std.proofs.Common.{◌≡◌, ◌≢◌, ℕ, zero, suc, ◌<◌, ◌⊎◌, inl, inr, List, [], ◌∷◌, length, set, Some, refl, ap, arith}
-use Rattle.std.specs.Prelude.{Contains, slice_get}
+use Rattle.plan_base.proofs.Common.{◌≡◌, ◌≢◌, ℕ, zero, suc, ◌<◌, ◌⊎◌, inl, inr, List, [], ◌∷◌, length, set, Some, refl, ap, arith, Contains, slice_get}
 
 pub contains_head : {X : Type 0} (x : X) (xs : List X) → Contains (x ∷ xs) x
 contains_head x xs = (zero, (omega arith), refl)

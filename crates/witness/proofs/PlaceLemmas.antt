@@ -1,13 +1,6 @@
 -- What is known after a walk was taken.
-use Rattle.std.proofs.Common.{◌≡◌, ◌≢◌, ℕ, ◌+◌, ◌<◌, ◌≤◌, ◌⊎◌, inl, inr, List, ◌∙◌, length, set, get_or, Some, true, false, refl, sym, ap, subst, arith, nat_eq, cond, Bool}
-use Rattle.std.specs.Prelude.{slice_get}
-use Rattle.std.specs.List.{sum_by}
-use Rattle.std.proofs.lemmas.Bool.{cases_eq, cases_lt, eq-eqb, eqb-true}
-use Rattle.std.proofs.lemmas.Option.{same_Some, slice_get-get_or}
-use Rattle.std.proofs.lemmas.List.Sums.{sum_by-set}
-use Rattle.witness.specs.declared.place.Place.{Place}
-use Rattle.witness.specs.inside.Places.{Known, IsKnownWithin}
-use Rattle.witness.specs.inside.Searching.{left_of}
+use Rattle.plan_base.proofs.Common.{◌≡◌, ◌≢◌, ℕ, ◌+◌, ◌<◌, ◌≤◌, ◌⊎◌, inl, inr, List, ◌∙◌, length, set, get_or, Some, true, false, refl, sym, ap, subst, arith, nat_eq, cond, Bool, slice_get, sum_by, cases_eq, cases_lt, eq-eqb, eqb-true, same_Some, slice_get-get_or, sum_by-set}
+use Rattle.witness.specs.{declared.place.Place.Place, inside.Known, inside.IsKnownWithin, inside.left_of}
 use Rattle.witness.proofs.ListLemmas.{slice_get-set_same, slice_get-set_other}
 
 abbrev place_of : ℕ → ℕ → ℕ → Place

@@ -1,22 +1,11 @@
 -- The search after a walk was offered, and what it shows at its end.
-use Rattle.std.proofs.Common.{◌≡◌, ◌≢◌, ℕ, ◌+◌, ◌*◌, ◌<◌, ◌≤◌, ◌⊎◌, inl, inr, List, [], ◌∷◌, ◌∙◌, length, take, get_or, sym, ap, subst, arith}
-use Rattle.std.specs.Prelude.{All, Contains, Vec}
-use Rattle.std.specs.List.{sum_by}
-use Rattle.std.specs.BinaryHeap.{heap_items, heap_len, IsHeap}
+use Rattle.plan_base.proofs.Common.{◌≡◌, ◌≢◌, ℕ, ◌+◌, ◌*◌, ◌<◌, ◌≤◌, ◌⊎◌, inl, inr, List, [], ◌∷◌, ◌∙◌, length, take, get_or, sym, ap, subst, arith, All, Contains, Vec, sum_by, Global, cases_lt, length-set, take_all, All-more, All-weaker, All-contains, Contains-permutation}
+use Rattle.std.proofs.Common.{heap_items, heap_len}
+use Rattle.std.specs.BinaryHeap.{IsHeap}
 use Rattle.std.specs.declared.cmp.Reverse.{Reverse}
-use Rattle.std.specs.declared.alloc.Global.{Global}
-use Rattle.std.proofs.lemmas.Bool.{cases_lt}
-use Rattle.std.proofs.lemmas.List.{length-set, take_all}
-use Rattle.std.proofs.lemmas.List.Elements.{All-more, All-weaker, All-contains}
-use Rattle.std.proofs.lemmas.List.Sorted.{Contains-permutation}
-use Rattle.witness.specs.declared.edge.Edge.{Edge}
-use Rattle.witness.specs.declared.workspace.Workspace.{Workspace}
-use Rattle.hierarchy.specs.Hops.{Hop, AreHops, total}
-use Rattle.witness.specs.Rows.{HasEdge, NoWalkWithin, row_at}
-use Rattle.witness.specs.inside.Places.{Known, IsKnownWithin}
-use Rattle.witness.specs.inside.Searching.{IsSearch, IsFresh, NobodyBusy, IsBusy, Knows, Reaches, WaitsAt, waiting_of, waiting_cmp, TakesWalk, Leaves, IsWalkOffered, HasParent, IsRelaxed, AreLower, IsNext, IsSame, IsKnownAt, IsEdgeClosed, NobodyWaitsWithin, left_of, work, IsEdgePut}
-use Rattle.witness.proofs.ListLemmas.{contains_head, contains_tail, head_or_tail}
-use Rattle.witness.proofs.PlaceLemmas.{known_here, known_was, lower, less_left}
+use Rattle.witness.specs.{Edge, HasEdge, NoWalkWithin, row_at, declared.workspace.Workspace.Workspace, inside.Known, inside.IsKnownWithin, inside.IsSearch, inside.IsFresh, inside.NobodyBusy, inside.IsBusy, inside.Knows, inside.Reaches, inside.WaitsAt, inside.waiting_of, inside.waiting_cmp, inside.TakesWalk, inside.Leaves, inside.IsWalkOffered, inside.HasParent, inside.IsRelaxed, inside.AreLower, inside.IsNext, inside.IsSame, inside.IsKnownAt, inside.IsEdgeClosed, inside.NobodyWaitsWithin, inside.left_of, inside.work, inside.IsEdgePut}
+use Rattle.hierarchy.specs.{Hop, AreHops, total}
+use Rattle.witness.proofs.{ListLemmas.contains_head, ListLemmas.contains_tail, ListLemmas.head_or_tail, PlaceLemmas.known_here, PlaceLemmas.known_was, PlaceLemmas.lower, PlaceLemmas.less_left}
 
 module _ (rows : List (Vec Edge Global)) (limit : ℕ) (busy : ℕ → ℕ → Type 0) (old new : Workspace) (to at parent : ℕ) (there : to < length old.places.items) where
   module _ (round : new.round ≡ old.round) (takes : TakesWalk old new to at parent) where

@@ -1,8 +1,8 @@
 -- What is left of a layer: for each node the ways out of it.
 use Rattle.std.specs.Prelude.{◌≡◌, ℕ, ◌<◌, ◌≤◌, ◌^◌, List, [], Option, None, Some, IfSome, length, slice_get, Contains, Vec}
 use Rattle.std.specs.declared.alloc.Global.{Global}
-use Rattle.witness.specs.declared.edge.Edge.{Edge}
-use Rattle.hierarchy.specs.Hops.{Hop, AreHops, total, nodes_along}
+pub use Rattle.witness.specs.declared.edge.Edge.{Edge}
+use Rattle.hierarchy.specs.{Hop, AreHops, total, nodes_along}
 
 abbrev pub items_of : Option (Vec Edge Global) → List Edge
 items_of None = []

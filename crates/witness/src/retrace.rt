@@ -1,6 +1,6 @@
 //! The way back to the start of a search.
 
-ghost use Rattle.std.specs.Prelude.{◌<◌, ◌≤◌, ◌^◌, length, IfOk};
+ghost use Rattle.std.specs.Prelude.{◌<◌, IfOk};
 ghost use Rattle.witness.specs.Rows.{AreEdgeRows, IsWalkWithin};
 ghost use Rattle.witness.specs.inside.Searching.{IsSearch, Reaches, NobodyBusy};
 

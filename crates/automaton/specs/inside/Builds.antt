@@ -1,11 +1,6 @@
 -- What building the positions of a part adds.
 use Rattle.std.specs.Prelude.{◌≡◌, ℕ, ◌+◌, ◌≤◌, Bool, true, false, List, ◌++◌, map, reverse}
-use Rattle.automaton.specs.declared.builder.Draft.{Draft}
-use Rattle.automaton.specs.declared.builder.Builder.{Builder}
-use Rattle.automaton.specs.declared.position_set.PositionSet.{PositionSet}
-use Rattle.automaton.specs.Written.{Written, size}
-use Rattle.automaton.specs.inside.Rows.{PositionRow, entry, position_rows}
-use Rattle.automaton.specs.inside.Sets.{has}
+use Rattle.automaton.specs.{declared.builder.Draft.Draft, declared.builder.Builder.Builder, declared.position_set.PositionSet.PositionSet, Written.Written, Written.size, inside.Rows.PositionRow, inside.Rows.entry, inside.Rows.position_rows, inside.Sets.has}
 
 abbrev pub draft_row : Draft → PositionRow
 draft_row draft = record { letters = draft.letters; next = has draft.next }

@@ -1,25 +1,15 @@
 -- What the steps of compiling answer: what was read, and why nothing was.
 use Rattle.std.specs.Prelude.{◌≡◌, ℕ, ◌⊎◌, List, Option, Ok, Err, length}
-use Rattle.plan_base.specs.Shelves.{ShelfMeaning, HasRead, Told}
-use Rattle.plan_base.specs.declared.limits.Caps.{Caps}
+use Rattle.plan_base.specs.{ShelfMeaning, HasRead, Told, Caps}
 use Rattle.plan_base.proofs.MoreRead.{IsFrontOf}
 use Rattle.service_days.specs.DaysMeaning.{DaysMeaning}
-use Rattle.opl_reader.specs.ObjectLists.{ObjectLists}
-use Rattle.opl_reader.specs.Objects.{objects_of}
-use Rattle.opl_reader.specs.Readers.{OplState}
-use Rattle.opl_reader.specs.Readings.{HasTaken, IsEndedFault}
-use Rattle.opl_reader.specs.declared.objects.OplFault.{OplFault}
-use Rattle.gtfs_tables.specs.FeedLists.{FeedLists}
-use Rattle.gtfs_tables.specs.Feeds.{feed_of}
-use Rattle.gtfs_tables.specs.declared.faults.FeedFault.{FeedFault}
-use Rattle.region_build.specs.Answers.{HasFault}
+use Rattle.opl_reader.specs.{ObjectLists.ObjectLists, objects_of, OplState, HasTaken, IsEndedFault, OplFault}
+use Rattle.gtfs_tables.specs.{FeedLists.FeedLists, feed_of, FeedFault}
+use Rattle.region_build.specs.{HasFault}
 use Rattle.run_steps.specs.declared.outcome.FileRole.TheVariants as role
-use Rattle.run_steps.specs.declared.outcome.Outcome.{Outcome}
-use Rattle.run_steps.specs.declared.outcome.Outcome.TheVariants.{BadFeed, OutOfMemory}
+use Rattle.run_steps.specs.{Outcome, BadFeed, OutOfMemory, IsUnread, most_bytes}
 use Rattle.run_steps.specs.declared.outcome.SourceFault.TheVariants as source
-use Rattle.run_steps.specs.Sayings.{IsUnread, most_bytes}
-use Rattle.compile_commands.specs.Maps.{ShowsFault}
-use Rattle.compile_commands.specs.Feeds.{AreTables, IsFeedUnread, feed_files_of, in_order}
+use Rattle.compile_commands.specs.{Maps.ShowsFault, Feeds.AreTables, Feeds.IsFeedUnread, Feeds.feed_files_of, Feeds.in_order}
 
 -- ---- maps
 

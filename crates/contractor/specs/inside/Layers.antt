@@ -4,22 +4,10 @@ use Rattle.std.specs.Ordering.{ordering_then, nat_cmp}
 use Rattle.std.specs.declared.cmp.Ordering.{Ordering}
 use Rattle.std.specs.declared.cmp.Ordering.TheVariants.{Less}
 use Rattle.std.specs.declared.alloc.Global.{Global}
-use Rattle.mode_network.specs.declared.nodes.Arc.{Arc}
-use Rattle.mode_network.specs.NetworkLists.{NetworkLists}
-use Rattle.mode_network.specs.NetworkLists.{nodes_of as network_nodes}
-use Rattle.mode_network.specs.Journeys.{Leads}
-use Rattle.hierarchy.specs.declared.entry.Entry.{Entry}
-use Rattle.hierarchy.specs.Lists.{HierarchyLists, WitnessLists, IsCore, IsContracted, first_of, last_of}
-use Rattle.hierarchy.specs.Rules.{FitsWitness}
-use Rattle.hierarchy.specs.Soundness.{HasEntry, IsSound, IsFree}
-use Rattle.witness.specs.declared.edge.Edge.{Edge}
-use Rattle.witness.specs.Rows.{row_at}
-use Rattle.contractor.specs.declared.way.Way.{Way}
-use Rattle.contractor.specs.declared.way.Side.{Side}
-use Rattle.contractor.specs.declared.layer.Layer.{Layer}
-use Rattle.witness.specs.declared.workspace.Workspace.{Workspace}
-use Rattle.witness.specs.inside.Searching.{IsSearch, NobodyBusy}
-use Rattle.contractor.specs.inside.Partway.{IsGood, AreWays, IsPartway, HaveOtherEnds, IsTrueWeight}
+use Rattle.mode_network.specs.{Arc, nodes_of as network_nodes, Leads, NetworkLists.NetworkLists}
+use Rattle.hierarchy.specs.{Entry, HierarchyLists, WitnessLists, IsCore, IsContracted, first_of, last_of, FitsWitness, HasEntry, IsSound, IsFree}
+use Rattle.witness.specs.{Edge, row_at, declared.workspace.Workspace.Workspace, inside.IsSearch, inside.NobodyBusy}
+use Rattle.contractor.specs.{declared.way.Way.Way, declared.way.Side.Side, declared.layer.Layer.Layer, inside.Partway.IsGood, inside.Partway.AreWays, inside.Partway.IsPartway, inside.Partway.HaveOtherEnds, inside.Partway.IsTrueWeight}
 
 -- ---- the hierarchy so far
 

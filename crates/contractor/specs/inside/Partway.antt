@@ -1,12 +1,7 @@
 -- One contraction, partway through.
 use Rattle.std.specs.Prelude.{◌≡◌, ◌≢◌, ℕ, ◌+◌, ◌<◌, ◌≤◌, ◌⊎◌, List, [], ◌∷◌, ◌++◌, Some, None, All, AllPairs, Contains, slice_index_or}
-use Rattle.mode_network.specs.NetworkLists.{NetworkLists}
-use Rattle.mode_network.specs.Journeys.{Leads}
-use Rattle.hierarchy.specs.declared.entry.Entry.{Entry}
-use Rattle.hierarchy.specs.Hops.{Hop, AreHops, total}
-use Rattle.hierarchy.specs.Lists.{HierarchyLists, IsCore, IsContracted}
-use Rattle.hierarchy.specs.Soundness.{HasEntry, HasLighter, IsBridged, IsSound}
-use Rattle.hierarchy.specs.Contraction.{IsShortcut}
+use Rattle.mode_network.specs.{NetworkLists.NetworkLists, Leads}
+use Rattle.hierarchy.specs.{Entry, Hop, AreHops, total, HierarchyLists, IsCore, IsContracted, HasEntry, HasLighter, IsBridged, IsSound, IsShortcut}
 use Rattle.contractor.specs.declared.way.Way.{Way}
 
 -- no roads are quicker than a shortcut

@@ -1,16 +1,10 @@
 -- The rides from one board by least times, as the arcs from a place on.
 use Rattle.std.specs.Prelude.{◌≡◌, ℕ, ◌+◌, ◌-◌, ◌++◌, true, List, [], ◌∷◌, take, drop}
-use Rattle.search_laws.specs.GraphLaws.{GraphMeaning}
-use Rattle.search_laws.specs.Ways.{is_open, ways_from}
-use Rattle.search_laws.specs.declared.graph.Way.{Way}
-use Rattle.timetable_arcs.specs.declared.rides.Ride.{Ride as RideCalls}
-use Rattle.timetable_arcs.specs.Patterns.{TableLists, pattern_trip}
-use Rattle.timetable_arcs.specs.Rides.{alights}
+use Rattle.search_laws.specs.{GraphMeaning, is_open, ways_from, Way}
+use Rattle.timetable_arcs.specs.{Ride as RideCalls, TableLists, pattern_trip, alights}
 use Rattle.mode_network.specs.NetworkLists.{NetworkLists}
-use Rattle.plain_graph.specs.declared.plain.PlainArc.TheVariants.{Ride}
-use Rattle.plain_graph.specs.PlainArcs.{graph_arc}
-use Rattle.departures.specs.declared.fastest.FastestCall.{FastestCall}
-use Rattle.departures.specs.Fastest.{least_ms}
+use Rattle.plain_graph.specs.{Ride, graph_arc}
+use Rattle.departures.specs.{declared.fastest.FastestCall.FastestCall, Fastest.least_ms}
 
 -- the ride from where this one begins to a call
 abbrev pub ride_to : RideCalls → ℕ → RideCalls

@@ -1,7 +1,6 @@
 -- How the rows are listed one after the other.
 use Rattle.std.specs.Prelude.{ℕ, ◌+◌, ◌-◌, max, Bool, true, nat_lt, ◌&&◌, List, [], ◌∷◌, ◌++◌, Option, Some, None, if◌then◌else◌}
-use Rattle.departures.specs.declared.row.Pair.{Pair}
-use Rattle.departures.specs.declared.row.Row.{Row}
+use Rattle.departures.specs.{declared.row.Pair.Pair, declared.row.Row.Row}
 
 -- From when on a search goes on after a pair that arrives first: later than that departs, and not so early that it would take as long as without a ride.
 abbrev pub next_moment : Option ℕ → Pair → ℕ

@@ -1,25 +1,16 @@
 -- What a search for a journey with a ride goes over, and what it finds.
 use Rattle.std.specs.Prelude.{◌≡◌, ℕ, ◌+◌, ◌<◌, ◌≤◌, ◌^◌, ◌↔◌, false, List, length, All, Option, Some, None}
-use Rattle.search_laws.specs.LabelLaws.{LabelsMeaning, Accepts}
-use Rattle.search_laws.specs.Collapse.{collapse}
-use Rattle.timetable_arcs.specs.Patterns.{TableLists}
-use Rattle.mode_network.specs.NetworkLists.{NetworkLists, nodes_of}
-use Rattle.mode_network.specs.Journeys.{Route}
-use Rattle.mode_expression.specs.Form.{Form, IsWordOf}
-use Rattle.automaton.specs.Collapsed.{collapsed}
-use Rattle.automaton.specs.Meanings.{position_meaning}
-use Rattle.product_search.specs.declared.label.Walk.{Walk}
-use Rattle.plain_graph.specs.Simulation.{JourneysAreWalks}
-use Rattle.journey.specs.Best.{Asked, asked_by}
-use Rattle.journey.specs.Blocks.{IsPrintable}
-use Rattle.journey.specs.CopyLists.{AreTheCopies}
-use Rattle.unpack.specs.Taken.{TakesHops}
-use Rattle.few_boardings.specs.Counted.{counted, transits}
-use Rattle.departures.specs.declared.row.Pair.{Pair}
-use Rattle.departures.specs.declared.row.Row.{Row}
-use Rattle.departures.specs.declared.search.RideSearch.{RideSearch}
-use Rattle.departures.specs.Departures.{IsPair, IsRow}
-use Rattle.departures.specs.inside.SettingOff.{IsSetOff}
+use Rattle.search_laws.specs.{LabelsMeaning, Accepts, collapse}
+use Rattle.timetable_arcs.specs.{TableLists}
+use Rattle.mode_network.specs.{NetworkLists.NetworkLists, nodes_of, Route}
+use Rattle.mode_expression.specs.{Form.Form, IsWordOf}
+use Rattle.automaton.specs.{collapsed, position_meaning}
+use Rattle.product_search.specs.{Walk}
+use Rattle.plain_graph.specs.{JourneysAreWalks}
+use Rattle.journey.specs.{Asked, asked_by, IsPrintable, AreTheCopies}
+use Rattle.unpack.specs.{TakesHops}
+use Rattle.few_boardings.specs.{counted, transits}
+use Rattle.departures.specs.{declared.row.Pair.Pair, declared.row.Row.Row, declared.search.RideSearch.RideSearch, Departures.IsPair, Departures.IsRow, inside.SettingOff.IsSetOff}
 
 -- the automaton accepts the words that have a transit letter, and whose collapse the form denotes
 abbrev pub ReadsRides : Form → LabelsMeaning → Type 0

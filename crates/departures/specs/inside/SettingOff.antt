@@ -1,11 +1,8 @@
 -- Journeys that set off as late as their first ride lets them.
 use Rattle.std.specs.Prelude.{◌≡◌, ℕ, ◌+◌, ◌-◌, ◌<◌, ◌||◌, not, Bool, true, false, List, [], ◌∷◌, ◌++◌, if◌then◌else◌}
-use Rattle.mode_network.specs.declared.steps.Step.{Step}
-use Rattle.mode_network.specs.declared.steps.Step.TheVariants.{Wait, Road, Link, Stand, Ride}
-use Rattle.mode_network.specs.NetworkLists.{NetworkLists}
-use Rattle.mode_network.specs.Journeys.{Route}
-use Rattle.search_laws.specs.Times.{time_bound}
-use Rattle.journey.specs.Boarded.{AreOnTime}
+use Rattle.mode_network.specs.{Step, Wait, Link, Stand, Ride, Route, declared.steps.Step.TheVariants.Road, NetworkLists.NetworkLists}
+use Rattle.search_laws.specs.{time_bound}
+use Rattle.journey.specs.{AreOnTime}
 
 abbrev pub is_wait : Step → Bool
 is_wait (Wait until) = true

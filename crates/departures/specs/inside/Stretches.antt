@@ -1,9 +1,7 @@
 -- How a fastest run of a pattern is made of what its runs take at least from call to call.
 use Rattle.std.specs.Prelude.{ℕ, ◌+◌, ◌-◌, ◌^◌, ◌<◌, ◌≤◌, min, List, [], ◌∷◌, length, slice_index_or}
-use Rattle.timetable_arcs.specs.declared.trips.Call.{Call}
-use Rattle.timetable_arcs.specs.Patterns.{no_call}
-use Rattle.departures.specs.declared.fastest.FastestCall.{FastestCall}
-use Rattle.departures.specs.declared.fastest.Stretch.{Stretch}
+use Rattle.timetable_arcs.specs.{Call, no_call}
+use Rattle.departures.specs.{declared.fastest.FastestCall.FastestCall, declared.fastest.Stretch.Stretch}
 
 abbrev pub no_stretch : Stretch
 no_stretch = record { ride = 0; pass = 0 }

@@ -1,7 +1,6 @@
 -- Automata that read no letter of transit.
 use Rattle.std.specs.Prelude.{ℕ, ◌<◌, ◌≤◌, IsBitSet}
-use Rattle.search_laws.specs.Letters.{IsLetter}
-use Rattle.search_laws.specs.LabelLaws.{LabelsMeaning}
+use Rattle.search_laws.specs.{IsLetter, LabelsMeaning}
 
 -- the letters of transit are those from tram, which is 3, on
 abbrev pub IsTransit : ℕ → Type 0

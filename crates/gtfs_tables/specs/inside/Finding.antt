@@ -1,7 +1,6 @@
 -- The columns that were found in a header.
 use Rattle.std.specs.Prelude.{◌≡◌, ◌<◌, ℕ, List, Option, length, get_or}
-use Rattle.gtfs_tables.specs.declared.columns.Column.{Column}
-use Rattle.gtfs_tables.specs.Columns.{Row, place_of_column}
+use Rattle.gtfs_tables.specs.{declared.columns.Column.Column, Columns.Row, Columns.place_of_column}
 
 -- each column stands where it was found
 abbrev pub AreFound : Row → List (Column × Option ℕ) → Type 0

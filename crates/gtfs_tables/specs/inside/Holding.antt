@@ -1,10 +1,6 @@
 -- What is kept of the rows of a table while they are read.
 use Rattle.std.specs.Prelude.{◌≡◌, ◌+◌, ℕ, List, [], ◌∷◌, ◌++◌, length, map, filter_map, Option, Result, Ok, MatchResult}
-use Rattle.gtfs_tables.specs.declared.faults.FeedFault.{FeedFault}
-use Rattle.gtfs_tables.specs.Answers.{IsFaultOf}
-use Rattle.gtfs_tables.specs.Columns.{Row}
-use Rattle.gtfs_tables.specs.TableRows.{TableRow}
-use Rattle.gtfs_tables.specs.Tables.{IsWithinLimit, Table, judged, rows_behind, records_of}
+use Rattle.gtfs_tables.specs.{declared.faults.FeedFault.FeedFault, Answers.IsFaultOf, Columns.Row, TableRows.TableRow, Tables.IsWithinLimit, Tables.Table, Tables.judged, Tables.rows_behind, Tables.records_of}
 
 -- the keys and the records of the earlier rows, which are within the limit
 pub record Holds {F R K : Type 0} (t : Table F R) (key : F → K) (keys : List K) (rows : List R) (earlier : List F) : Type 0 where

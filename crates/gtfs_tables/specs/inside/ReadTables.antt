@@ -1,10 +1,7 @@
 -- What was read of the tables of a feed, in two parts.
 use Rattle.std.specs.Prelude.{◌≡◌, [], map, None}
-use Rattle.plan_base.specs.declared.limits.Caps.{Caps}
-use Rattle.gtfs_tables.specs.declared.feeds.Basis.{Basis}
-use Rattle.gtfs_tables.specs.declared.feeds.Runs.{Runs}
-use Rattle.gtfs_tables.specs.declared.files.FeedFiles.{FeedFiles}
-use Rattle.gtfs_tables.specs.Agencies.{agencies}
+use Rattle.plan_base.specs.{Caps}
+use Rattle.gtfs_tables.specs.{declared.feeds.Basis.Basis, declared.feeds.Runs.Runs, declared.files.FeedFiles.FeedFiles, Agencies.agencies, FeedLists.FeedLists, FeedLists.bytes_of, Feeds.first_absent, Feeds.required, inside.Holding.AreRead}
 use Rattle.gtfs_tables.specs.Stops as Stops
 use Rattle.gtfs_tables.specs.Routes as Routes
 use Rattle.gtfs_tables.specs.Services as Services
@@ -12,9 +9,6 @@ use Rattle.gtfs_tables.specs.ServiceDates as Dates
 use Rattle.gtfs_tables.specs.Trips as Trips
 use Rattle.gtfs_tables.specs.Frequencies as Frequencies
 use Rattle.gtfs_tables.specs.Calls as Calls
-use Rattle.gtfs_tables.specs.FeedLists.{FeedLists, bytes_of}
-use Rattle.gtfs_tables.specs.Feeds.{first_absent, required}
-use Rattle.gtfs_tables.specs.inside.Holding.{AreRead}
 
 -- no file is absent that must be there, and those down to the dates were read
 pub record IsBasis (caps : Caps) (files : FeedFiles) (basis : Basis) : Type 0 where

@@ -1,7 +1,5 @@
 -- What the fields of a hierarchy keep.
-use Rattle.hierarchy.specs.declared.hierarchy.Hierarchy.TheInside.{Inside}
-use Rattle.hierarchy.specs.Rules.{IsHierarchy}
-use Rattle.hierarchy.specs.inside.Tables.{AreTablesOf}
+use Rattle.hierarchy.specs.{declared.hierarchy.Hierarchy.TheInside.Inside, Rules.IsHierarchy, inside.Tables.AreTablesOf}
 
 pub record IsKept (h : Inside) : Type 0 where
   pub rules : IsHierarchy h.lists

@@ -1,10 +1,6 @@
 -- The tables that are made of an order and of entries.
 use Rattle.std.specs.Prelude.{◌≡◌, ℕ, ◌<◌, List, All}
-use Rattle.hierarchy.specs.declared.entry.Entry.{Entry}
-use Rattle.hierarchy.specs.declared.tables.Tables.{Tables}
-use Rattle.hierarchy.specs.Lookups.{places_of}
-use Rattle.hierarchy.specs.Indexes.{AreEndsBelow, AreFallTables, AreHeights, AreRows}
-use Rattle.hierarchy.specs.Rises.{is_rise, legs_of_rises, rises_in}
+use Rattle.hierarchy.specs.{declared.entry.Entry.Entry, declared.tables.Tables.Tables, Lookups.places_of, Indexes.AreEndsBelow, Indexes.AreFallTables, Indexes.AreHeights, Indexes.AreRows, Rises.is_rise, Rises.legs_of_rises, Rises.rises_in}
 
 pub record AreTablesOf (order : List ℕ) (entries : List Entry) (tables : Tables) : Type 0 where
   pub order_below : All (λ v. v < tables.nodes) order

@@ -1,10 +1,7 @@
 -- Parts of the clauses, as the check decides them.
 use Rattle.std.specs.Prelude.{◌≡◌, ◌≢◌, ℕ, ◌+◌, ◌-◌, ◌<◌, ◌≤◌, ◌^◌, List, [], ◌∷◌, Option, Some, All, slice_get}
-use Rattle.plan_base.specs.declared.modes.Mode.{Mode}
-use Rattle.hierarchy.specs.declared.entry.Entry.{Entry}
-use Rattle.hierarchy.specs.Lists.{HierarchyLists, IsAbove}
-use Rattle.hierarchy.specs.Soundness.{HasEntry, IsBridged, PairsAreBridged, PairIsBridged, NodeIsBridged}
-use Rattle.hierarchy.specs.FirstBroken.{FailsFirst}
+use Rattle.plan_base.specs.{Mode}
+use Rattle.hierarchy.specs.{Entry, HierarchyLists, IsAbove, HasEntry, IsBridged, PairsAreBridged, PairIsBridged, NodeIsBridged, FailsFirst}
 
 -- the weights of two entries can be added
 abbrev pub IsLight : List Entry → Type 0

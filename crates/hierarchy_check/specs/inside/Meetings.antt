@@ -1,8 +1,8 @@
 -- Which nodes of an order were met up to a place of it.
 use Rattle.std.specs.Prelude.{◌≡◌, ℕ, ◌<◌, Bool, true, false, List, length, slice_index_or, slice_set}
-use Rattle.mode_network.specs.NetworkLists.{NetworkLists, nodes_of}
-use Rattle.search_laws.specs.Firsts.{HoldsBelow}
-use Rattle.hierarchy.specs.Soundness.{IsFree, MayStandAt}
+use Rattle.mode_network.specs.{NetworkLists.NetworkLists, nodes_of}
+use Rattle.search_laws.specs.{HoldsBelow}
+use Rattle.hierarchy.specs.{IsFree, MayStandAt}
 
 -- a free node that was not met before
 abbrev pub IsFirstMeeting : NetworkLists → List Bool → ℕ → Type 0

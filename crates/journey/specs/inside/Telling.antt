@@ -1,10 +1,8 @@
 -- What is told of the steps of a journey.
 use Rattle.std.specs.Prelude.{◌≡◌, ℕ, List}
-use Rattle.search_laws.specs.Collapse.{collapse}
-use Rattle.mode_network.specs.declared.steps.Step.{Step}
-use Rattle.mode_network.specs.NetworkLists.{NetworkLists}
-use Rattle.journey.specs.Texts.{AreTold}
-use Rattle.journey.specs.declared.telling.Told.{Told}
+use Rattle.search_laws.specs.{collapse}
+use Rattle.mode_network.specs.{Step, NetworkLists.NetworkLists}
+use Rattle.journey.specs.{Texts.AreTold, declared.telling.Told.Told}
 
 -- the steps from v at t lead to where and when it is told, with this word and these lines
 pub record IsTold (n : NetworkLists) (v t : ℕ) (steps : List Step) (told : Told) : Type 0 where

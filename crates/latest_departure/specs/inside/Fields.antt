@@ -1,7 +1,5 @@
 -- What the fields of a table of what leads to each node show, and what they keep.
-use Rattle.latest_departure.specs.declared.backwards.Backwards.TheInside.{Inside}
-use Rattle.latest_departure.specs.BackLists.{BackLists, IsBackwards}
-use Rattle.latest_departure.specs.inside.Sums.{AreSums}
+use Rattle.latest_departure.specs.{declared.backwards.Backwards.TheInside.Inside, BackLists.BackLists, BackLists.IsBackwards, inside.Sums.AreSums}
 
 abbrev pub lists_of : Inside → BackLists
 lists_of b = record { network = b.network.now; table = b.timetable.now; entries = b.entries.items; places = b.places.items }

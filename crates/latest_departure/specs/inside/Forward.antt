@@ -1,13 +1,10 @@
 -- Of the journeys that leave at a time or later, one that leaves then and arrives first.
 use Rattle.std.specs.Prelude.{◌≡◌, ℕ, Option, Some, None}
-use Rattle.timetable_arcs.specs.Patterns.{TableLists}
-use Rattle.mode_network.specs.NetworkLists.{NetworkLists}
-use Rattle.mode_network.specs.Journeys.{Route}
-use Rattle.product_search.specs.declared.label.Walk.{Walk}
-use Rattle.unpack.specs.Taken.{TakesHops}
-use Rattle.journey.specs.Boarded.{BoardsOnTime}
-use Rattle.journey.specs.Best.{Asked, IsBest, HasNone}
-use Rattle.journey.specs.Blocks.{IsPrintable}
+use Rattle.timetable_arcs.specs.{TableLists}
+use Rattle.mode_network.specs.{NetworkLists.NetworkLists, Route}
+use Rattle.product_search.specs.{Walk}
+use Rattle.unpack.specs.{TakesHops}
+use Rattle.journey.specs.{BoardsOnTime, Asked, IsBest, HasNone, IsPrintable}
 
 -- the same, asked from this time on
 abbrev pub leaving : Asked → ℕ → Asked

@@ -1,13 +1,10 @@
 -- The arcs out of a node in mirrored time that can be taken, source by source.
-use Rattle.std.specs.Prelude.{ℕ, ◌+◌, ◌-◌, List, [], ◌∷◌, Option, Some, None, nat_le, ◌&&◌, if◌then◌else◌}
-use Rattle.std.specs.List.{flat_map, range_with_len}
-use Rattle.search_laws.specs.Ways.{is_open, open_way}
-use Rattle.search_laws.specs.declared.graph.Way.{Way}
-use Rattle.timetable_arcs.specs.declared.trips.Instance.{Instance}
-use Rattle.timetable_arcs.specs.declared.rides.Ride.{Ride as RideCalls}
-use Rattle.timetable_arcs.specs.Patterns.{TableLists, pattern_trip, last_run, departs}
-use Rattle.mode_network.specs.NetworkLists.{NetworkLists, letter_at, stop_node}
-use Rattle.plain_graph.specs.PlainArcs.{pattern_call}
+use Rattle.std.specs.Prelude.{ℕ, ◌+◌, ◌-◌, List, [], ◌∷◌, Option, Some, None, nat_le, ◌&&◌, if◌then◌else◌, flat_map}
+use Rattle.std.specs.List.{range_with_len}
+use Rattle.search_laws.specs.{is_open, open_way, Way}
+use Rattle.timetable_arcs.specs.{Instance, Ride as RideCalls, TableLists, pattern_trip, last_run, departs}
+use Rattle.mode_network.specs.{NetworkLists.NetworkLists, letter_at, stop_node}
+use Rattle.plain_graph.specs.{pattern_call}
 use Rattle.latest_departure.specs.declared.source.Source.{Source}
 use Rattle.latest_departure.specs.declared.source.Source.TheVariants as source
 

@@ -1,6 +1,6 @@
 //! The clauses of a closed list, each tried in turn at each place, with a search of the whole list for each label.
 
-ghost use Rattle.std.specs.Prelude.{◌<◌, ◌≤◌};
+ghost use Rattle.std.specs.Prelude.{◌<◌};
 ghost use Rattle.search_laws.specs.Letters.{IsLetter};
 
 use super::town::Asked;

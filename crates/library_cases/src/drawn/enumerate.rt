@@ -1,6 +1,6 @@
 //! All walks up to a horizon, by the definition: each moment, each node, each state, each wait, each arc.
 
-ghost use Rattle.std.specs.Prelude.{◌<◌, ◌≤◌, ◌^◌};
+ghost use Rattle.std.specs.Prelude.{◌<◌};
 ghost use Rattle.search_laws.specs.Letters.{IsLetter};
 
 use super::town::Asked;

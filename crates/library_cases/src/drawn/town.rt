@@ -1,7 +1,7 @@
 //! A graph and an automaton that are drawn from a number, and what is asked of a search over them.
 
 ghost use Rattle.std.specs.Prelude.{◌≡◌, ◌<◌, ◌≤◌, ◌^◌};
-ghost use Rattle.library_cases.specs.Towns.{drawn, letter_drawn, timetabled, town, rules, town_lawful, rules_lawful};
+ghost use Rattle.library_cases.specs.Towns.{drawn, letter_drawn, town, rules, town_lawful, rules_lawful};
 
 use search_laws::{Graph, GraphArc, Labels, Move, Steady, Time};
 

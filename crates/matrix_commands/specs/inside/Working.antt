@@ -1,17 +1,9 @@
 -- What the steps of the command hold: lines that ask as both ends of a query, the table that rows are read from, and an origin with its arrivals.
 use Rattle.std.specs.Prelude.{◌≡◌, ℕ, ◌-◌, ◌<◌, List, [], map, length, Option, Some, None, IfSome, position, ◌==◌, slice_index_or}
 use Rattle.mode_network.specs.NetworkLists.{NetworkLists}
-use Rattle.journey.specs.declared.query.Query.{Query}
-use Rattle.journey.specs.Large.{IsSmall}
-use Rattle.planning.specs.Plans.{IsRead}
-use Rattle.planning.specs.Arrivals.{AreArrivalsTo}
-use Rattle.planning.specs.Destinations.{AreDestinations}
-use Rattle.matrix_commands.specs.declared.cell.Cell.{Cell}
-use Rattle.matrix_commands.specs.declared.cell.Cell.TheVariants.{Takes, Without}
-use Rattle.matrix_commands.specs.declared.table.Table.{Table}
-use Rattle.matrix_commands.specs.declared.table.Origin.{Origin}
-use Rattle.matrix_commands.specs.Cells.{query_line_of, IsRightCell}
-use Rattle.matrix_commands.specs.Rows.{AreRowsOf}
+use Rattle.journey.specs.{Query, IsSmall}
+use Rattle.planning.specs.{IsRead, AreArrivalsTo, AreDestinations}
+use Rattle.matrix_commands.specs.{declared.cell.Cell.Cell, declared.cell.Cell.TheVariants.Takes, declared.cell.Cell.TheVariants.Without, declared.table.Table.Table, declared.table.Origin.Origin, Cells.query_line_of, Cells.IsRightCell, Rows.AreRowsOf}
 
 -- no space stands in the text
 abbrev pub IsField : List ℕ → Type 0

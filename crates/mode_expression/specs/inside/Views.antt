@@ -1,10 +1,6 @@
 -- What the reader holds, as the reading that it stands for.
 use Rattle.std.specs.Prelude.{◌≡◌, Bool, List, Option, Some, None, map, reverse, if◌then◌else◌}
-use Rattle.mode_expression.specs.declared.expr.Expr.{Expr}
-use Rattle.mode_expression.specs.declared.level.Level.{Level}
-use Rattle.mode_expression.specs.Form.{Form, form_of}
-use Rattle.mode_expression.specs.declared.reader.Reader.{Reader}
-use Rattle.mode_expression.specs.inside.Machine.{Frame, Reading}
+use Rattle.mode_expression.specs.{declared.expr.Expr.Expr, declared.level.Level.Level, Form.Form, Form.form_of, declared.reader.Reader.Reader, inside.Machine.Frame, inside.Machine.Reading}
 
 -- the forms, the latest first
 abbrev pub latest : List Expr → List Form

@@ -1,12 +1,6 @@
 -- What the fields of a network show, and what they keep.
 use Rattle.std.specs.Prelude.{◌≡◌, map}
-use Rattle.mode_network.specs.declared.network.Network.TheInside.{Inside}
-use Rattle.mode_network.specs.NetworkLists.{NetworkLists}
-use Rattle.mode_network.specs.Rules.{IsNetwork}
-use Rattle.mode_network.specs.Timetables.{IsTimetableOf}
-use Rattle.mode_network.specs.Indexes.{AreIndexes, leg_of}
-use Rattle.mode_network.specs.Copies.{road_points}
-use Rattle.mode_network.specs.Points.{HoldSame}
+use Rattle.mode_network.specs.{declared.network.Network.TheInside.Inside, NetworkLists.NetworkLists, Rules.IsNetwork, Timetables.IsTimetableOf, Indexes.AreIndexes, Indexes.leg_of, Copies.road_points, Points.HoldSame}
 
 abbrev pub lists_of : Inside → NetworkLists
 lists_of n = record {

@@ -1,16 +1,10 @@
 -- The entries that lead down from a node with a mark to another: those of each node are a chain, in the order of their places.
-use Rattle.std.specs.Prelude.{◌≡◌, ℕ, ◌+◌, ◌-◌, ◌<◌, ◌≤◌, ◌==◌, Bool, true, List, [], ◌∷◌, ◌++◌, length, map, filter, Option, slice_index_or}
-use Rattle.std.specs.List.{flat_map, range_with_len}
+use Rattle.std.specs.Prelude.{◌≡◌, ℕ, ◌+◌, ◌-◌, ◌<◌, ◌≤◌, ◌==◌, Bool, true, List, [], ◌∷◌, ◌++◌, length, map, filter, Option, slice_index_or, flat_map}
+use Rattle.std.specs.List.{range_with_len}
 use Rattle.std.proofs.Props.{props}
-use Rattle.search_laws.specs.declared.graph.Way.{Way}
-use Rattle.hierarchy.specs.Lists.{HierarchyLists}
-use Rattle.hierarchy.specs.Lookups.{entry_at, falls_to, places_of}
-use Rattle.phase_graph.specs.declared.falls.ChainedFall.{ChainedFall}
-use Rattle.phase_graph.specs.declared.falls.Fall.{Fall}
-use Rattle.phase_graph.specs.declared.falls.FallChains.{FallChains}
-use Rattle.phase_graph.specs.Arcs.{phase_node}
-use Rattle.phase_graph.specs.Marks.{is_fall, marks_in}
-use Rattle.phase_graph.specs.PhaseArcs.{entries_at, first_entry}
+use Rattle.search_laws.specs.{Way}
+use Rattle.hierarchy.specs.{HierarchyLists, entry_at, falls_to, places_of}
+use Rattle.phase_graph.specs.{declared.falls.ChainedFall.ChainedFall, declared.falls.Fall.Fall, declared.falls.FallChains.FallChains, Arcs.phase_node, Marks.is_fall, Marks.marks_in, PhaseArcs.entries_at, PhaseArcs.first_entry}
 
 -- the entry at a place, which leads into the descent
 abbrev pub fall_at : HierarchyLists → ℕ → Fall

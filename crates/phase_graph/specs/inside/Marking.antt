@@ -1,9 +1,7 @@
 -- How far the marking of nodes has come: the nodes that have a mark wait in a list, and are followed one after the other.
 use Rattle.std.specs.Prelude.{◌≡◌, ℕ, ◌+◌, ◌<◌, ◌≤◌, ◌⊎◌, ◌==◌, Bool, true, List, length, All, AllPairs, Contains, slice_index_or, count_by}
-use Rattle.hierarchy.specs.declared.entry.Entry.{Entry}
-use Rattle.hierarchy.specs.Lists.{HierarchyLists, IsAbove}
-use Rattle.phase_graph.specs.Moves.{IsMarked}
-use Rattle.phase_graph.specs.Marks.{has_mark}
+use Rattle.hierarchy.specs.{Entry, HierarchyLists, IsAbove}
+use Rattle.phase_graph.specs.{Moves.IsMarked, Marks.has_mark}
 
 -- the number of a node, which is 0 past the end
 abbrev pub number_at : List ℕ → ℕ → ℕ

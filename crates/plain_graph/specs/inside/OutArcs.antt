@@ -1,24 +1,14 @@
 -- The arcs out of a node are the network's own, and each has a place among them.
-use Rattle.std.proofs.Common.{◌≡◌, List, ℕ, ◌+◌, ◌-◌, ◌<◌, ◌≤◌, ◌∙◌, cond, length, nat_lt, nat_le, ◌&&◌, Bool, true, false, Option, Some, None, refl, ap, subst, arith}
-use Rattle.std.specs.Prelude.{slice_index_or, is_some, option_and_then, option_map}
+use Rattle.std.specs.Prelude.{◌≡◌, List, ℕ, ◌+◌, ◌-◌, ◌<◌, ◌≤◌, cond, length, nat_lt, nat_le, ◌&&◌, Bool, true, false, Option, Some, None, refl, slice_index_or, is_some, option_and_then, option_map}
+use Rattle.std.proofs.Common.{◌∙◌, ap, subst, arith}
 use Rattle.std.proofs.lemmas.Bool.{ltb-true, ltb-false, leb-true, le-leb, lt-ltb, le-ltb}
 use Rattle.std.proofs.lemmas.Option.{slice_get-get_or, get_or_from_slice_get, slice_get_past}
-use Rattle.timetable_arcs.specs.declared.rides.Ride.{Ride as RideCalls}
-use Rattle.timetable_arcs.specs.Patterns.{TableLists}
-use Rattle.timetable_arcs.specs.Rides.{rides_at, IsRideAt}
-use Rattle.timetable_arcs.specs.Table.{IsTable}
+use Rattle.timetable_arcs.specs.{Ride as RideCalls, TableLists, rides_at, IsRideAt, IsTable}
 use Rattle.timetable_arcs.proofs.TableLemmas.{ride_fits, ride_there}
-use Rattle.plan_base.specs.Modes.{number_of_mode}
-use Rattle.mode_network.specs.declared.nodes.Node.{Node}
-use Rattle.mode_network.specs.declared.nodes.Arc.{Arc}
-use Rattle.mode_network.specs.NetworkLists.{NetworkLists, mode_of, letter_at, stop_at, stop_node}
-use Rattle.mode_network.specs.Rules.{IsNetwork, IsAscending, arc_cmp}
-use Rattle.mode_network.specs.Indexes.{range_from}
-use Rattle.mode_network.proofs.IndexLemmas.{range_is_range, begins_in_range, in_range_of_begin}
-use Rattle.mode_network.proofs.RuleLemmas.{both, some_is}
-use Rattle.plain_graph.specs.declared.plain.PlainArc.{PlainArc}
-use Rattle.plain_graph.specs.declared.plain.PlainArc.TheVariants.{Road, Link, Stand, Ride}
-use Rattle.plain_graph.specs.PlainArcs.{plain_arc, count_from, stands_at, rides_from_stop, rides_of, arcs_at, no_arc, no_ride}
+use Rattle.plan_base.specs.{number_of_mode}
+use Rattle.mode_network.specs.{Node, Arc, mode_of, letter_at, stop_at, stop_node, IsNetwork, IsAscending, arc_cmp, range_from, NetworkLists.NetworkLists}
+use Rattle.mode_network.proofs.{IndexLemmas.range_is_range, IndexLemmas.begins_in_range, IndexLemmas.in_range_of_begin, RuleLemmas.both, RuleLemmas.some_is}
+use Rattle.plain_graph.specs.{declared.plain.PlainArc.PlainArc, declared.plain.PlainArc.TheVariants.Road, declared.plain.PlainArc.TheVariants.Link, declared.plain.PlainArc.TheVariants.Stand, declared.plain.PlainArc.TheVariants.Ride, PlainArcs.plain_arc, PlainArcs.count_from, PlainArcs.stands_at, PlainArcs.rides_from_stop, PlainArcs.rides_of, PlainArcs.arcs_at, PlainArcs.no_arc, PlainArcs.no_ride}
 
 -- the arc stands at this place of the list, and begins at v
 pub record IsArcFrom (arcs : List Arc) (v : ℕ) (arc : Arc) : Type 0 where

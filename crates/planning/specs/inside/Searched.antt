@@ -1,21 +1,15 @@
 -- What a search for a query goes over, and the journey under the walk that it finds.
 use Rattle.std.specs.Prelude.{◌≡◌, ℕ, List, Option, Some, None, All}
-use Rattle.mode_expression.specs.Form.{form_of}
-use Rattle.search_laws.specs.GraphLaws.{GraphMeaning}
-use Rattle.search_laws.specs.LabelLaws.{LabelsMeaning, IsLawfulLabels}
-use Rattle.product_search.specs.declared.label.Walk.{Walk}
-use Rattle.unpack.specs.Unpacking.{AreHopsIn, IsSoon, node_after, arrival_after}
-use Rattle.unpack.specs.PhaseUnpacking.{IsUnpacked, letters_in}
-use Rattle.automaton.specs.Written.{written}
-use Rattle.automaton.specs.States.{IsPositionAutomaton}
-use Rattle.automaton.specs.Collapsed.{collapsed}
-use Rattle.hierarchy.specs.Lists.{HierarchyLists}
-use Rattle.phase_graph.specs.InUse.{IsInUse, IsSoundIfGiven, starts_in, ends_in, node_under}
-use Rattle.mode_network.specs.NetworkLists.{NetworkLists}
-use Rattle.mode_network.specs.Journeys.{Route}
-use Rattle.journey.specs.declared.query.Query.{Query}
-use Rattle.journey.specs.CopyLists.{AreTheCopies}
-use Rattle.certificate.specs.Verdicts.{AreDenoted}
+use Rattle.mode_expression.specs.{form_of}
+use Rattle.search_laws.specs.{GraphMeaning, LabelsMeaning, IsLawfulLabels}
+use Rattle.product_search.specs.{Walk}
+use Rattle.unpack.specs.{AreHopsIn, IsSoon, node_after, arrival_after, IsUnpacked, letters_in}
+use Rattle.automaton.specs.{written, IsPositionAutomaton, collapsed}
+use Rattle.hierarchy.specs.{HierarchyLists}
+use Rattle.phase_graph.specs.{IsInUse, IsSoundIfGiven, starts_in, ends_in, node_under}
+use Rattle.mode_network.specs.{NetworkLists.NetworkLists, Route}
+use Rattle.journey.specs.{Query, AreTheCopies}
+use Rattle.certificate.specs.{AreDenoted}
 
 -- What a search for a query goes over: the graph in use, from the starts to the ends, and an automaton of the expression.
 pub record IsSearchSpace (n : NetworkLists) (h : Option HierarchyLists) (q : Query) (g : GraphMeaning) (l : LabelsMeaning) (starts ends : List ℕ) : Type 0 where

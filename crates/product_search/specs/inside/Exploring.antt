@@ -1,19 +1,7 @@
 -- What the arcs out of a product state add to what is reached.
 use Rattle.std.specs.Prelude.{◌≡◌, ℕ, ◌+◌, ◌-◌, ◌^◌, ◌<◌, ◌≤◌, ◌⊎◌, List, Some, IsTrue, Contains, length, slice_get}
-use Rattle.search_laws.specs.GraphLaws.{GraphMeaning, HasArc}
-use Rattle.search_laws.specs.declared.graph.Leg.{Leg}
-use Rattle.search_laws.specs.declared.graph.Way.{Way}
-use Rattle.search_laws.specs.LabelLaws.{LabelsMeaning, Follows, AllAfter}
-use Rattle.search_laws.specs.Fresh.{RunRides, WasGiven}
-use Rattle.search_laws.specs.declared.given.GivenRuns.{GivenRuns}
-use Rattle.product_search.specs.declared.queue.Item.{Item}
-use Rattle.product_search.specs.declared.row.Row.{Row}
-use Rattle.product_search.specs.declared.row.Reached.{Reached}
-use Rattle.product_search.specs.declared.row.Taken.{Taken}
-use Rattle.product_search.specs.declared.frontier.Scan.{Scan}
-use Rattle.product_search.specs.declared.frontier.Frontier.{Frontier}
-use Rattle.product_search.specs.inside.Queued.{Queued, queue_len}
-use Rattle.product_search.specs.inside.Waiting.{rows, ways, Waits, IsReachedBy, IsWanted}
+use Rattle.search_laws.specs.{GraphMeaning, HasArc, Leg, Way, LabelsMeaning, Follows, AllAfter, RunRides, WasGiven, GivenRuns}
+use Rattle.product_search.specs.{declared.queue.Item.Item, declared.row.Row.Row, declared.row.Reached.Reached, declared.row.Taken.Taken, declared.frontier.Scan.Scan, declared.frontier.Frontier.Frontier, inside.Queued.Queued, inside.Queued.queue_len, inside.Waiting.rows, inside.Waiting.ways, inside.Waiting.Waits, inside.Waiting.IsReachedBy, inside.Waiting.IsWanted}
 
 -- ---- offers
 

@@ -1,9 +1,7 @@
 -- The moves of the states of an automaton, by their letters.
 use Rattle.std.specs.Prelude.{◌≡◌, ◌==◌, ℕ, zero, suc, ◌<◌, ◌≤◌, ◌++◌, ◌∷◌, [], List, length, All, Contains, IsBitSet, slice_index_or, if◌then◌else◌}
 use Rattle.std.specs.Int.{bit_at}
-use Rattle.search_laws.specs.Letters.{IsLetter, letter_count}
-use Rattle.search_laws.specs.LabelLaws.{LabelsMeaning, HasMove}
-use Rattle.search_laws.specs.declared.labels.Move.{Move}
+use Rattle.search_laws.specs.{IsLetter, letter_count, LabelsMeaning, HasMove, Move}
 use Rattle.product_search.specs.declared.moves.StateMoves.{StateMoves}
 
 -- ---- the first n moves of the state q, which are in a list at the places below n

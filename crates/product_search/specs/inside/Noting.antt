@@ -1,12 +1,7 @@
 -- What a search for many targets keeps: where each target stands in their list, and when it was reached.
 use Rattle.std.specs.Prelude.{◌≡◌, ◌≢◌, ℕ, zero, suc, ◌+◌, ◌-◌, ◌^◌, ◌<◌, ◌≤◌, ◌⊎◌, List, [], ◌∷◌, length, slice_index, slice_index_or, Option, Some, None, IsTrue, nat_lt, if◌then◌else◌}
-use Rattle.search_laws.specs.GraphLaws.{GraphMeaning}
-use Rattle.search_laws.specs.LabelLaws.{LabelsMeaning}
-use Rattle.search_laws.specs.Walks.{ArrivesAt}
-use Rattle.product_search.specs.declared.frontier.Scan.{Scan}
-use Rattle.product_search.specs.declared.targets.Noted.{Noted}
-use Rattle.product_search.specs.Arrivals.{IsArrivalAt}
-use Rattle.product_search.specs.inside.Places.{IsPlaced}
+use Rattle.search_laws.specs.{GraphMeaning, LabelsMeaning, ArrivesAt}
+use Rattle.product_search.specs.{declared.frontier.Scan.Scan, declared.targets.Noted.Noted, Arrivals.IsArrivalAt, inside.Places.IsPlaced}
 
 -- the time at a place, where 0 is none
 abbrev pub time_by : List (Option ℕ) → ℕ → Option ℕ

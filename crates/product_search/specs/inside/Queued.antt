@@ -1,9 +1,7 @@
 -- What the queue of a frontier holds.
 use Rattle.std.specs.Prelude.{◌≡◌, ℕ, zero, suc, ◌+◌, ◌*◌, ◌^◌, ◌<◌, ◌≤◌, ◌⊎◌, List, [], ◌∷◌, All, Contains, length, sum_by, Vec}
 use Rattle.std.specs.declared.alloc.Global.{Global}
-use Rattle.product_search.specs.declared.queue.Item.{Item}
-use Rattle.product_search.specs.declared.queue.LateItem.{LateItem}
-use Rattle.product_search.specs.declared.queue.Queue.{Queue}
+use Rattle.product_search.specs.{declared.queue.Item.Item, declared.queue.LateItem.LateItem, declared.queue.Queue.Queue}
 
 -- the delay with which the bucket at a place begins: the first one has all that is before the second
 abbrev pub begin_at : ℕ → ℕ → ℕ → ℕ

@@ -1,21 +1,7 @@
 -- What the search keeps while it explores one product state after the other.
 use Rattle.std.specs.Prelude.{◌≡◌, ℕ, zero, suc, ◌+◌, ◌-◌, ◌^◌, ◌<◌, ◌≤◌, ◌⊎◌, List, length, slice_index, slice_get, Option, Some, None, IfSome, All, IsTrue, Contains, nat_lt, if◌then◌else◌, filter_map}
-use Rattle.search_laws.specs.GraphLaws.{GraphMeaning, HasArc}
-use Rattle.search_laws.specs.LabelLaws.{LabelsMeaning, Follows}
-use Rattle.product_search.specs.declared.row.Row.{Row}
-use Rattle.product_search.specs.declared.row.Taken.{Taken}
-use Rattle.product_search.specs.declared.frontier.Scan.{Scan}
-use Rattle.product_search.specs.declared.frontier.Frontier.{Frontier}
-use Rattle.product_search.specs.Reach.{IsReachedAt, IsWithin}
-use Rattle.product_search.specs.Listed.{label_of}
-use Rattle.product_search.specs.declared.label.Label.{Label}
-use Rattle.product_search.specs.declared.label.Best.{Best}
-use Rattle.product_search.specs.Answer.{IsArrival, IsWalkFor, last_time}
-use Rattle.product_search.specs.declared.limit.Limited.{Limited}
-use Rattle.product_search.specs.declared.limit.Limited.TheVariants.{Ended, Stopped}
-use Rattle.product_search.specs.Questions.{QuestionMeaning, HasMore}
-use Rattle.product_search.specs.inside.Waiting.{rows, ways, IsFrontier, IsReachedBy, IsWanted, Waits}
-use Rattle.product_search.specs.inside.Exploring.{StartIsReached, ArcIsReached}
+use Rattle.search_laws.specs.{GraphMeaning, HasArc, LabelsMeaning, Follows}
+use Rattle.product_search.specs.{declared.row.Row.Row, declared.row.Taken.Taken, declared.frontier.Scan.Scan, declared.frontier.Frontier.Frontier, Reach.IsReachedAt, Reach.IsWithin, Listed.label_of, declared.label.Label.Label, declared.label.Best.Best, Answer.IsArrival, Answer.IsWalkFor, Answer.last_time, declared.limit.Limited.Limited, declared.limit.Limited.TheVariants.Ended, declared.limit.Limited.TheVariants.Stopped, Questions.QuestionMeaning, Questions.HasMore, inside.Waiting.rows, inside.Waiting.ways, inside.Waiting.IsFrontier, inside.Waiting.IsReachedBy, inside.Waiting.IsWanted, inside.Waiting.Waits, inside.Exploring.StartIsReached, inside.Exploring.ArcIsReached}
 
 -- ---- where a way comes from
 

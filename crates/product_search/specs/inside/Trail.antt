@@ -1,12 +1,6 @@
 -- The way back through the ways that were taken.
 use Rattle.std.specs.Prelude.{◌≡◌, ℕ, ◌+◌, ◌^◌, ◌<◌, suc, List, [], ◌∷◌, reverse, ⊤, Option, Some, None, slice_get}
-use Rattle.product_search.specs.declared.label.Hop.{Hop}
-use Rattle.product_search.specs.declared.label.Walk.{Walk}
-use Rattle.product_search.specs.declared.row.Row.{Row}
-use Rattle.product_search.specs.declared.row.Taken.{Taken}
-use Rattle.product_search.specs.declared.frontier.Scan.{Scan}
-use Rattle.product_search.specs.declared.frontier.Frontier.{Frontier}
-use Rattle.product_search.specs.inside.Waiting.{rows, ways}
+use Rattle.product_search.specs.{declared.label.Hop.Hop, declared.label.Walk.Walk, declared.row.Row.Row, declared.row.Taken.Taken, declared.frontier.Scan.Scan, declared.frontier.Frontier.Frontier, inside.Waiting.rows, inside.Waiting.ways}
 
 -- each way leads to a row, and goes on from a way before it
 pub record HasParents (f : Frontier) : Type 0 where

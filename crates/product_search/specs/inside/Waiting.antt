@@ -1,12 +1,6 @@
 -- What is reached, and who waits in the queue.
 use Rattle.std.specs.Prelude.{◌≡◌, ℕ, ◌≤◌, suc, ◌+◌, ◌*◌, ◌/◌, ◌-◌, ◌<◌, ◌^◌, ◌⊎◌, List, [], length, slice_index, slice_get, Some, nat_lt, if◌then◌else◌, bit_and}
-use Rattle.product_search.specs.inside.Queued.{Queued, IsQueue, queue_len}
-use Rattle.product_search.specs.declared.queue.Item.{Item}
-use Rattle.product_search.specs.declared.row.Reached.{Reached}
-use Rattle.product_search.specs.declared.row.Row.{Row}
-use Rattle.product_search.specs.declared.row.Taken.{Taken}
-use Rattle.product_search.specs.declared.frontier.Scan.{Scan}
-use Rattle.product_search.specs.declared.frontier.Frontier.{Frontier}
+use Rattle.product_search.specs.{inside.Queued.Queued, inside.Queued.IsQueue, inside.Queued.queue_len, declared.queue.Item.Item, declared.row.Reached.Reached, declared.row.Row.Row, declared.row.Taken.Taken, declared.frontier.Scan.Scan, declared.frontier.Frontier.Frontier}
 
 abbrev pub rows : Frontier → List Row
 rows f = f.rows.items

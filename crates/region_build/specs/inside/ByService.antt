@@ -4,11 +4,9 @@ use Rattle.std.specs.HashMap.{HashMap, get_by}
 use Rattle.std.specs.Option.{option_map_or}
 use Rattle.std.specs.declared.alloc.Global.{Global}
 use denote.Ref.{Bor}
-use Rattle.plan_base.specs.declared.days.DaySet.{DaySet}
-use Rattle.service_days.specs.DaysMeaning.{DaysMeaning}
-use Rattle.service_days.specs.declared.services.ServiceRule.{ServiceRule}
-use Rattle.gtfs_tables.specs.FeedLists.{FeedLists}
-use Rattle.gtfs_tables.specs.declared.services.ServiceRow.{ServiceRow}
+use Rattle.plan_base.specs.{DaySet}
+use Rattle.service_days.specs.{DaysMeaning.DaysMeaning, ServiceRule}
+use Rattle.gtfs_tables.specs.{FeedLists.FeedLists, ServiceRow}
 use Rattle.region_build.specs.Services.{AreDaysBy, dates_of, rule_of}
 
 -- what is kept by these bytes

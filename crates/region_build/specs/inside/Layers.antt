@@ -1,9 +1,7 @@
 -- The nearest point of three lists, one for each mode.
 use Rattle.std.specs.Prelude.{ℕ, ℤ, List, Option, None, fold}
-use Rattle.plan_base.specs.declared.modes.Mode.{Mode}
-use Rattle.plan_base.specs.declared.modes.Mode.TheVariants.{Foot, Bike, Car}
-use Rattle.plan_base.specs.declared.places.Place.{Place}
-use Rattle.geo_length.specs.Nearest.{Point, length_to, nearer_of}
+use Rattle.plan_base.specs.{Mode, Foot, Bike, Car, Place}
+use Rattle.geo_length.specs.{Point, length_to, nearer_of}
 
 -- the nearest of some points within half a kilometre, one after the other
 unfoldable pub nearest_of : List Point → Place → Option (ℤ × ℕ)

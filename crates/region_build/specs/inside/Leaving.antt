@@ -1,10 +1,7 @@
 -- When and how often trips leave, by arithmetic alone.
 use Rattle.std.specs.Prelude.{◌≡◌, ℕ, ◌+◌, ◌-◌, List, [], ◌∷◌, max, min, length, sum_by}
-use Rattle.gtfs_tables.specs.declared.calls.CallRow.{CallRow}
-use Rattle.gtfs_tables.specs.declared.frequencies.FrequencyRow.{FrequencyRow}
-use Rattle.region_build.specs.Copies.{departing, departures_by, departures_of, first_departure, leaves_of}
-use Rattle.region_build.specs.Sources.{SourceLists}
-use Rattle.region_build.specs.declared.headways.CopyCounts.{CopyCounts}
+use Rattle.gtfs_tables.specs.{CallRow, FrequencyRow}
+use Rattle.region_build.specs.{Copies.departing, Copies.departures_by, Copies.departures_of, Copies.first_departure, Copies.leaves_of, Sources.SourceLists, declared.headways.CopyCounts.CopyCounts}
 
 -- the latest of these times and t
 abbrev pub latest_of : ℕ → List CallRow → ℕ

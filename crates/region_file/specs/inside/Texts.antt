@@ -1,19 +1,11 @@
 -- What is written of the parts of a network.
-use Rattle.std.specs.Prelude.{ℕ, List, [], ◌++◌, length, slice_index_or, ◌<◌}
-use Rattle.std.specs.List.{flat_map}
-use Rattle.plain_texts.specs.Lines.{with_feed}
-use Rattle.plan_base.specs.declared.places.Place.{Place}
-use Rattle.timetable_arcs.specs.Trips.{TripLists}
-use Rattle.mode_network.specs.declared.nodes.Node.{Node}
-use Rattle.mode_network.specs.declared.nodes.NodeKey.{NodeKey}
-use Rattle.mode_network.specs.declared.nodes.NodeKey.TheVariants.{Road, Stop, Switch}
-use Rattle.region_file.specs.declared.lines.Line.{Line}
+use Rattle.std.specs.Prelude.{ℕ, List, [], ◌++◌, length, slice_index_or, ◌<◌, flat_map}
+use Rattle.plain_texts.specs.{with_feed}
+use Rattle.plan_base.specs.{Place}
+use Rattle.timetable_arcs.specs.{TripLists}
+use Rattle.mode_network.specs.{Node, NodeKey, Road, Stop, Switch, NetworkLists.NetworkLists}
+use Rattle.region_file.specs.{declared.lines.Line.Line, declared.format.Format.Format, declared.format.Format.TheVariants.Text, declared.format.Format.TheVariants.Binary, Bytes.call_bytes, Bytes.counts_of, Bytes.head_bytes, Bytes.record_bytes, Bytes.trip_bytes, Lines.head_line, Lines.spelled, Lines.trip_lines}
 use Rattle.region_file.specs.declared.lines.Line.TheVariants as line
-use Rattle.mode_network.specs.NetworkLists.{NetworkLists}
-use Rattle.region_file.specs.declared.format.Format.{Format}
-use Rattle.region_file.specs.declared.format.Format.TheVariants.{Text, Binary}
-use Rattle.region_file.specs.Bytes.{call_bytes, counts_of, head_bytes, record_bytes, trip_bytes}
-use Rattle.region_file.specs.Lines.{head_line, spelled, trip_lines}
 
 -- a line and its line feed
 abbrev pub line_text : Line → List ℕ

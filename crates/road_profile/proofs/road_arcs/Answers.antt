@@ -1,13 +1,7 @@
-use Rattle.std.proofs.Common.{◌≡◌, ℤ, IfOk, List, ap, ◌∙◌, subst, sym}
-use Rattle.std.specs.HashMap.{get}
-use Rattle.std.specs.Ordering.{int_eq}
+use Rattle.plan_base.proofs.Common.{◌≡◌, ℤ, IfOk, List, ap, ◌∙◌, subst, sym, get, int_eq}
 use Rattle.opl_reader.specs.ObjectLists.{ObjectLists}
-use Rattle.road_profile.specs.declared.rows.RoadRow.{RoadRow}
-use Rattle.road_profile.specs.Arcs.{AreArcsOf}
-use Rattle.road_profile.specs.Legs.{legs_of, place_of_node}
-use Rattle.road_profile.proofs.PlaceLaws.{legs_by_places}
-use Rattle.road_profile.proofs.TimedLaws.{answer_timed}
-use Rattle.road_profile.proofs.EndLaws.{answer_joined}
+use Rattle.road_profile.specs.{RoadRow, AreArcsOf, legs_of, place_of_node}
+use Rattle.road_profile.proofs.{PlaceLaws.legs_by_places, TimedLaws.answer_timed, EndLaws.answer_joined}
 use Rattle.road_profile.proofs.road_arcs.Goals as goal
 
 pub returns-clause-arcs : goal.returns-clause-arcs

@@ -1,10 +1,7 @@
 -- Why blocks were not written.
 use Rattle.std.specs.Prelude.{ℕ, List}
-use Rattle.plan_base.specs.Counts.{Rose}
-use Rattle.plan_base.specs.Sinks.{SinkMeaning, Stays}
-use Rattle.run_steps.specs.declared.outcome.Outcome.{Outcome}
-use Rattle.run_steps.specs.declared.outcome.Outcome.TheVariants.{WriteFault, OutOfMemory}
-use Rattle.run_steps.specs.Blocks.{BlockRule, WroteFront, WrotePart}
+use Rattle.plan_base.specs.{Rose, SinkMeaning, Stays}
+use Rattle.run_steps.specs.{declared.outcome.Outcome.Outcome, declared.outcome.Outcome.TheVariants.WriteFault, declared.outcome.Outcome.TheVariants.OutOfMemory, Blocks.BlockRule, Blocks.WroteFront, Blocks.WrotePart}
 
 -- why the block of a line was not written whole
 abbrev pub IsBlockOutcome : SinkMeaning → SinkMeaning → (List ℕ → Type 0) → Outcome → Type 0

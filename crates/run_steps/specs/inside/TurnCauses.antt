@@ -1,22 +1,9 @@
 -- How far a file is answered, step by step, and why it goes no further.
 use Rattle.std.specs.Prelude.{◌≡◌, ℕ, ◌+◌, ◌<◌, ◌≤◌, ⊤, List, [], ◌∷◌, ◌++◌, length, All, Some, if◌then◌else◌, ◌==◌}
-use Rattle.plan_base.specs.Counts.{Rose}
-use Rattle.plan_base.specs.ReadFaults.{read_fault_of}
-use Rattle.plan_base.specs.declared.reading.ReadFault.{ReadFault as ReadCause}
+use Rattle.plan_base.specs.{Rose, read_fault_of, ReadFault as ReadCause, ShelfError, IsLater, Told, SinkMeaning, Stays}
 use Rattle.plan_base.specs.declared.reading.ReadFault.TheVariants as cause
-use Rattle.plan_base.specs.declared.reading.ShelfError.{ShelfError}
-use Rattle.plan_base.specs.Shelves.{IsLater, Told}
-use Rattle.plan_base.specs.Sinks.{SinkMeaning, Stays}
-use Rattle.plain_texts.specs.Lines.{IsLine, lines_text}
-use Rattle.run_steps.specs.Scene.{Scene}
-use Rattle.run_steps.specs.Sayings.{most_bytes}
-use Rattle.run_steps.specs.QueryLines.{queries_among}
-use Rattle.run_steps.specs.Blocks.{BlockRule, AreBlocks, BeginsBlocks, WroteBlocks, AreCounted}
-use Rattle.run_steps.specs.inside.BlockCauses.{IsBlocksOutcome}
-use Rattle.run_steps.specs.InTurn.{HasReadTo, IsReadTo, IsShort, WroteFor}
-use Rattle.run_steps.specs.declared.outcome.FileRole.{FileRole}
-use Rattle.run_steps.specs.declared.outcome.Outcome.{Outcome}
-use Rattle.run_steps.specs.declared.outcome.Outcome.TheVariants.{TooLong, WriteFault, OutOfMemory}
+use Rattle.plain_texts.specs.{IsLine, lines_text}
+use Rattle.run_steps.specs.{Scene.Scene, Sayings.most_bytes, QueryLines.queries_among, Blocks.BlockRule, Blocks.AreBlocks, Blocks.BeginsBlocks, Blocks.WroteBlocks, Blocks.AreCounted, inside.BlockCauses.IsBlocksOutcome, InTurn.HasReadTo, InTurn.IsReadTo, InTurn.IsShort, InTurn.WroteFor, declared.outcome.FileRole.FileRole, declared.outcome.Outcome.Outcome, declared.outcome.Outcome.TheVariants.TooLong, declared.outcome.Outcome.TheVariants.WriteFault, declared.outcome.Outcome.TheVariants.OutOfMemory}
 
 -- What is done when more of a file is asked for: it was read up to this place, and the right blocks of all query lines that were read whole stand in the output.
 pub record IsUpToDate (IsBlock : BlockRule) (name : List ℕ) (place : ℕ) (first now : Scene ⊤) : Type 0 where

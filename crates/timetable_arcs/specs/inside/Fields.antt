@@ -1,8 +1,5 @@
 -- What the fields of a timetable show, and what they keep.
-use Rattle.timetable_arcs.specs.declared.timetable.Timetable.TheInside.{Inside}
-use Rattle.timetable_arcs.specs.Patterns.{TableLists}
-use Rattle.timetable_arcs.specs.Table.{IsTable}
-use Rattle.timetable_arcs.specs.RideTables.{AreAlightPlaces, AreBoards}
+use Rattle.timetable_arcs.specs.{declared.timetable.Timetable.TheInside.Inside, Patterns.TableLists, Table.IsTable, RideTables.AreAlightPlaces, RideTables.AreBoards}
 
 abbrev pub lists_of : Inside → TableLists
 lists_of t = record { bases = t.bases.items; stops = t.stops; trips = t.trips.items; patterns = t.patterns.items }

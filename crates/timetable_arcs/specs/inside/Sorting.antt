@@ -1,12 +1,7 @@
 -- All runs of trips, and how they are sorted into patterns.
 use Rattle.std.specs.Prelude.{◌≡◌, Option, Some, None, slice_get, ℕ, zero, suc, ◌+◌, ◌-◌, ◌<◌, ◌≤◌, List, [], ◌∷◌, ◌++◌, length, All, AllPairs, sum_by, slice_index_or, if◌then◌else◌}
-use Rattle.plan_base.specs.declared.days.DaySet.{DaySet}
-use Rattle.plan_base.specs.DaySets.{contains_day}
-use Rattle.timetable_arcs.specs.declared.trips.Call.{Call}
-use Rattle.timetable_arcs.specs.declared.trips.Instance.{Instance}
-use Rattle.timetable_arcs.specs.declared.patterns.LastPut.{LastPut}
-use Rattle.timetable_arcs.specs.Trips.{TripLists}
-use Rattle.timetable_arcs.specs.Patterns.{TableLists, plain_table, trip_at, no_run, no_trip, no_call, AreAlike, IsBehind}
+use Rattle.plan_base.specs.{DaySet, contains_day}
+use Rattle.timetable_arcs.specs.{declared.trips.Call.Call, declared.trips.Instance.Instance, declared.patterns.LastPut.LastPut, Trips.TripLists, Patterns.TableLists, Patterns.plain_table, Patterns.trip_at, Patterns.no_run, Patterns.no_trip, Patterns.no_call, Patterns.AreAlike, Patterns.IsBehind}
 
 -- the runs of the trip at a place on its days below n
 abbrev pub runs_below : ℕ → DaySet → ℕ → List Instance

@@ -1,16 +1,11 @@
 -- A search from one node: what is known of others, and who waits.
-use Rattle.std.specs.Prelude.{◌≡◌, ◌≢◌, ℕ, ◌+◌, ◌*◌, ◌<◌, ◌≤◌, ◌⊎◌, ◌==◌, List, [], ◌∷◌, length, Contains, IsPermutation, Vec, slice_set, if◌then◌else◌}
-use Rattle.std.specs.List.{sum_by}
+use Rattle.std.specs.Prelude.{◌≡◌, ◌≢◌, ℕ, ◌+◌, ◌*◌, ◌<◌, ◌≤◌, ◌⊎◌, ◌==◌, List, [], ◌∷◌, length, Contains, IsPermutation, Vec, slice_set, if◌then◌else◌, sum_by}
 use Rattle.std.specs.BinaryHeap.{heap_items, heap_len, IsHeap, KeepsHeap}
 use Rattle.std.specs.Ordering.{ordering_then, nat_cmp}
 use Rattle.std.specs.declared.cmp.Ordering.{Ordering}
 use Rattle.std.specs.declared.cmp.Reverse.{Reverse}
 use Rattle.std.specs.declared.alloc.Global.{Global}
-use Rattle.witness.specs.declared.edge.Edge.{Edge}
-use Rattle.witness.specs.declared.place.Place.{Place}
-use Rattle.witness.specs.declared.workspace.Workspace.{Workspace}
-use Rattle.witness.specs.inside.Places.{Known, IsKnownWithin}
-use Rattle.witness.specs.Rows.{HasEdge}
+use Rattle.witness.specs.{declared.edge.Edge.Edge, declared.place.Place.Place, declared.workspace.Workspace.Workspace, inside.Places.Known, inside.Places.IsKnownWithin, Rows.HasEdge}
 
 abbrev pub waiting_of : ℕ → ℕ → Reverse (ℕ × ℕ)
 waiting_of at v = record { 0 = (at, v) }

@@ -1,9 +1,6 @@
-use Rattle.std.proofs.Common.{List, ℕ, Option, Bor}
-use Rattle.std.proofs.lemmas.Result.{err_from_is_err_and}
-use Rattle.std.specs.Prelude.{option_map}
+use Rattle.plan_base.proofs.Common.{List, ℕ, Bor, err_from_is_err_and, option_map}
 use Rattle.plan_base.proofs.MoreWritten.{stays_so}
-use Rattle.answer_commands.proofs.BothLemmas.{both_fail, on_both}
-use Rattle.answer_commands.proofs.LentLemmas.{lent_sound}
+use Rattle.answer_commands.proofs.{BothLemmas.both_fail, BothLemmas.on_both, LentLemmas.lent_sound}
 use Rattle.answer_commands.proofs.answering.answer.Goals as goal
 
 pub answer_over-requires : goal.answer_over-requires

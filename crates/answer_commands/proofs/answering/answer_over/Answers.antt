@@ -1,10 +1,7 @@
-use Rattle.std.proofs.Common.{◌∙◌, inl, inr, Bor, sym}
-use Rattle.std.proofs.lemmas.Result.{err_from_is_err_and}
-use Rattle.std.specs.Prelude.{option_map}
+use Rattle.plan_base.proofs.Common.{◌∙◌, inl, inr, Bor, sym, err_from_is_err_and, option_map}
 use Rattle.hierarchy.specs.declared.hierarchy.Hierarchy.{Hierarchy}
-use Rattle.run_steps.specs.Scene.{scene}
-use Rattle.answer_commands.proofs.LentLemmas.{lent_same}
-use Rattle.answer_commands.proofs.SettledLemmas.{none_settled, settled_ends, unmade_settled}
+use Rattle.run_steps.specs.{scene}
+use Rattle.answer_commands.proofs.{LentLemmas.lent_same, SettledLemmas.none_settled, SettledLemmas.settled_ends, SettledLemmas.unmade_settled}
 use Rattle.answer_commands.proofs.answering.answer_over.Goals as goal
 
 pub returns-in_err-settled : goal.returns-in_err-settled

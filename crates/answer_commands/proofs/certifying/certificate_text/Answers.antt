@@ -1,13 +1,10 @@
-use Rattle.std.proofs.Common.{Bor, ◌≤◌, length, refl, sym, subst}
-use Rattle.std.proofs.lemmas.Result.{IfOk-weaker}
-use Rattle.std.specs.Prelude.{IfSome, option_map}
+use Rattle.plan_base.proofs.Common.{Bor, ◌≤◌, length, refl, sym, subst, IfOk-weaker, IfSome, option_map}
 use Rattle.hierarchy.specs.declared.hierarchy.Hierarchy.{Hierarchy}
-use Rattle.certificate.specs.Verdicts.{claim_on}
-use Rattle.journey.specs.Best.{Asked, asked_by}
-use Rattle.planning.specs.Plans.{AreTheLabels, IsCertifiable, IsPlan, route_of}
+use Rattle.certificate.specs.{claim_on}
+use Rattle.journey.specs.{Asked, asked_by}
+use Rattle.planning.specs.{AreTheLabels, IsCertifiable, IsPlan, route_of}
 use Rattle.planning.proofs.PlanLemmas.{plan_proves}
-use Rattle.answer_commands.proofs.CertifyLemmas.{certificate_within}
-use Rattle.answer_commands.proofs.LentLemmas.{lent_same}
+use Rattle.answer_commands.proofs.{CertifyLemmas.certificate_within, LentLemmas.lent_same}
 use Rattle.answer_commands.proofs.certifying.certificate_text.Goals as goal
 
 pub returns : goal.returns

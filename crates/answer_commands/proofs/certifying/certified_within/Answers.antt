@@ -1,6 +1,4 @@
-use Rattle.std.proofs.Common.{Bor}
-use Rattle.std.proofs.lemmas.Result.{IfOk-weaker}
-use Rattle.std.specs.Prelude.{option_map}
+use Rattle.plan_base.proofs.Common.{Bor, IfOk-weaker, option_map}
 use Rattle.hierarchy.specs.declared.hierarchy.Hierarchy.{Hierarchy}
 use Rattle.answer_commands.proofs.CertifyLemmas.{refused_within}
 use Rattle.answer_commands.proofs.certifying.certified_within.Goals as goal

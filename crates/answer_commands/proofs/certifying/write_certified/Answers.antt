@@ -1,8 +1,7 @@
-use Rattle.std.proofs.Common.{Bor}
-use Rattle.std.specs.Prelude.{option_map}
+use Rattle.plan_base.proofs.Common.{Bor, option_map}
 use Rattle.hierarchy.specs.declared.hierarchy.Hierarchy.{Hierarchy}
 use Rattle.run_steps.proofs.Steps.{text_ends}
-use Rattle.answer_commands.specs.Outputs.{IsCertified}
+use Rattle.answer_commands.specs.{IsCertified}
 use Rattle.answer_commands.proofs.certifying.write_certified.Goals as goal
 
 pub returns : goal.returns

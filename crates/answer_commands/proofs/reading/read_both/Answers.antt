@@ -1,6 +1,4 @@
-use Rattle.std.proofs.Common.{ℕ, inl, inr, List, Bor}
-use Rattle.std.proofs.lemmas.Result.{err_from_is_err_and}
-use Rattle.std.specs.Prelude.{option_map}
+use Rattle.plan_base.proofs.Common.{ℕ, inl, inr, List, Bor, err_from_is_err_and, option_map}
 use Rattle.hierarchy_commands.proofs.OutcomeLemmas.{found_sound}
 use Rattle.answer_commands.proofs.reading.read_both.Goals as goal
 

@@ -1,8 +1,7 @@
-use Rattle.std.proofs.Common.{sym, ap, ◌∙◌}
-use Rattle.automaton.specs.inside.Sets.{has}
-use Rattle.automaton.proofs.StateLemmas.{moves_more, moves_same}
+use Rattle.plan_base.proofs.Common.{sym, ap, ◌∙◌}
+use Rattle.automaton.specs.inside.{has}
+use Rattle.automaton.proofs.{StateLemmas.moves_more, StateLemmas.moves_same, state.make_moves.Goals.then-contains+in_ok-push, state.make_moves.Goals.else-contains}
 use Rattle.automaton.proofs.state.make_moves.Goals as goal
-use Rattle.automaton.proofs.state.make_moves.Goals.{then-contains+in_ok-push, else-contains}
 
 pub loop-index-preserved : goal.loop-index-preserved
 loop-index-preserved c =

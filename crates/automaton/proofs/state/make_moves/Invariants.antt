@@ -1,7 +1,5 @@
-use Rattle.std.proofs.Common.{◌≡◌, map}
-use Rattle.automaton.specs.inside.Builds.{draft_row}
-use Rattle.automaton.specs.inside.Sets.{has}
-use Rattle.automaton.specs.States.{moves_upto}
+use Rattle.plan_base.proofs.Common.{◌≡◌, map}
+use Rattle.automaton.specs.{inside.draft_row, inside.has, moves_upto}
 use Rattle.automaton.proofs.state.make_moves.Given as goal
 
 abbrev pub invariant-loop-index : goal.invariant-loop-index

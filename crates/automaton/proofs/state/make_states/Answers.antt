@@ -1,6 +1,5 @@
-use Rattle.std.proofs.Common.{map}
-use Rattle.automaton.specs.inside.Sets.{has}
-use Rattle.automaton.specs.States.{view_of}
+use Rattle.plan_base.proofs.Common.{map}
+use Rattle.automaton.specs.{inside.has, view_of}
 use Rattle.automaton.proofs.StateLemmas.{states_made}
 use Rattle.automaton.proofs.state.make_states.Goals as goal
 

@@ -1,7 +1,5 @@
-use Rattle.std.proofs.Common.{◌≡◌, ◌∷◌, map, take}
-use Rattle.automaton.specs.inside.Builds.{draft_row}
-use Rattle.automaton.specs.inside.Sets.{has}
-use Rattle.automaton.specs.States.{state_for, view_of}
+use Rattle.plan_base.proofs.Common.{◌≡◌, ◌∷◌, map, take}
+use Rattle.automaton.specs.{inside.draft_row, inside.has, state_for, view_of}
 use Rattle.automaton.proofs.state.make_states.Given as goal
 
 abbrev pub invariant-loop-draft : goal.invariant-loop-draft

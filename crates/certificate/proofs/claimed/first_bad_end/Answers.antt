@@ -1,4 +1,4 @@
-use Rattle.std.proofs.Common.{inl, inr, refl}
+use Rattle.plan_base.proofs.Common.{inl, inr, refl}
 use Rattle.certificate.proofs.claimed.first_bad_end.Goals as goal
 
 pub returns-then-not-is_timely : goal.returns-then-not-is_timely

@@ -1,8 +1,6 @@
-use Rattle.std.proofs.Common.{◌≡◌, ◌∙◌, ap, ap₂, sym, rules, arith, length, true, false, ◌<◌, ◌+◌}
-use Rattle.std.specs.Prelude.{Some, None, Ok}
-use Rattle.plain_texts.specs.Course.{lines_from}
-use Rattle.plain_texts.specs.Lines.{next_line_of, pieces}
-use Rattle.certificate.specs.Making.{made_by, line_at, reading}
+use Rattle.plan_base.proofs.Common.{◌≡◌, ◌∙◌, ap, ap₂, sym, rules, arith, length, true, false, ◌<◌, ◌+◌, Some, None, Ok}
+use Rattle.plain_texts.specs.{lines_from, next_line_of, pieces}
+use Rattle.certificate.specs.{made_by, line_at, reading}
 use Rattle.certificate.proofs.OneLine.{is_some, no_line, bad_line, last_line, more_lines, good_line}
 use Rattle.certificate.proofs.line_by_line.read_lines.Goals as goal
 

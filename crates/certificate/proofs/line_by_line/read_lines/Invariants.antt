@@ -1,7 +1,6 @@
-use Rattle.std.proofs.Common.{◌≡◌, ◌≤◌, ◌+◌, length}
-use Rattle.plain_texts.specs.Course.{lines_from}
-use Rattle.plain_texts.specs.Lines.{pieces}
-use Rattle.certificate.specs.Making.{made_by, line_at, reading}
+use Rattle.plan_base.proofs.Common.{◌≡◌, ◌≤◌, ◌+◌, length}
+use Rattle.plain_texts.specs.{lines_from, pieces}
+use Rattle.certificate.specs.{made_by, line_at, reading}
 use Rattle.certificate.proofs.line_by_line.read_lines.Given as goal
 
 abbrev pub invariant-loop-line : goal.invariant-loop-line

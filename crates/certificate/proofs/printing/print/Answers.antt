@@ -1,10 +1,6 @@
-use Rattle.std.proofs.Common.{◌≡◌, subst, append_assoc}
-use Rattle.std.specs.List.{AllByRecursion}
-use Rattle.certificate.specs.Certificates.{Claim}
-use Rattle.certificate.specs.Lines.{FitsLine}
-use Rattle.certificate.specs.Texts.{cert_lines, cert_text, label_lines, result_lines}
-use Rattle.certificate.proofs.FitLemmas.{of_both}
-use Rattle.certificate.proofs.TextLemmas.{whole_text}
+use Rattle.plan_base.proofs.Common.{◌≡◌, subst, append_assoc, AllByRecursion}
+use Rattle.certificate.specs.{Claim, FitsLine, cert_lines, cert_text, label_lines, result_lines}
+use Rattle.certificate.proofs.{FitLemmas.of_both, TextLemmas.whole_text}
 use Rattle.certificate.proofs.printing.print.Goals as goal
 
 pub returns : goal.returns

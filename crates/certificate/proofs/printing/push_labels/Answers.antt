@@ -1,7 +1,5 @@
-use Rattle.std.proofs.Common.{arith}
-use Rattle.std.proofs.lemmas.Grind.{common_steps}
-use Rattle.std.proofs.lemmas.List.Elements.{All-more}
-use Rattle.certificate.specs.Lines.{FitsLabel}
+use Rattle.plan_base.proofs.Common.{arith, common_steps, All-more}
+use Rattle.certificate.specs.{FitsLabel}
 use Rattle.certificate.proofs.printing.push_labels.Goals as goal
 
 pub loop-label-preserved : goal.loop-label-preserved

@@ -1,8 +1,7 @@
-use Rattle.std.proofs.Common.{[], ◌∷◌, map, append_assoc}
+use Rattle.plan_base.proofs.Common.{[], ◌∷◌, map, append_assoc}
 use Rattle.certificate.specs.declared.lines.Line.TheVariants as line
-use Rattle.certificate.specs.Lines.{FitsLabel, FitsLine}
-use Rattle.certificate.proofs.FitLemmas.{made_alike_fit, of_both}
-use Rattle.certificate.proofs.TextLemmas.{rest_text}
+use Rattle.certificate.specs.{FitsLabel, FitsLine}
+use Rattle.certificate.proofs.{FitLemmas.made_alike_fit, FitLemmas.of_both, TextLemmas.rest_text}
 use Rattle.certificate.proofs.printing.push_rest.Goals as goal
 
 pub returns-clause-fit : goal.returns-clause-fit

@@ -1,14 +1,10 @@
-use Rattle.std.proofs.Common.{◌≡◌, ◌<◌, ◌^◌, ◌++◌, ◌∙◌, ap, map, subst, sym, append_assoc}
-use Rattle.std.specs.Prelude.{Some, All}
-use Rattle.std.specs.List.{AllByRecursion}
-use Rattle.plain_texts.specs.Lines.{lines_text}
-use Rattle.journey.specs.Ends.{HasTime}
-use Rattle.mode_network.specs.Journeys.{Route}
+use Rattle.plan_base.proofs.Common.{◌≡◌, ◌<◌, ◌^◌, ◌++◌, ◌∙◌, ap, map, subst, sym, append_assoc, Some, All, AllByRecursion}
+use Rattle.plain_texts.specs.{lines_text}
+use Rattle.journey.specs.{HasTime}
+use Rattle.mode_network.specs.{Route}
 use Rattle.certificate.specs.declared.lines.Line.TheVariants as line
-use Rattle.certificate.specs.Lines.{FitsLine, FitsStep, spelled}
-use Rattle.certificate.specs.Texts.{FitsResult, result_lines}
-use Rattle.certificate.proofs.FitLemmas.{made_alike_fit}
-use Rattle.certificate.proofs.TextLemmas.{steps_text}
+use Rattle.certificate.specs.{FitsLine, FitsStep, spelled, FitsResult, result_lines}
+use Rattle.certificate.proofs.{FitLemmas.made_alike_fit, TextLemmas.steps_text}
 use Rattle.certificate.proofs.printing.push_result.Goals as goal
 
 pub push_steps-requires : goal.push_steps-requires

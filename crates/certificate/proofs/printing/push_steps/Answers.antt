@@ -1,7 +1,5 @@
-use Rattle.std.proofs.Common.{arith}
-use Rattle.std.proofs.lemmas.Grind.{common_steps}
-use Rattle.std.proofs.lemmas.List.Elements.{All-more}
-use Rattle.certificate.specs.Lines.{FitsStep}
+use Rattle.plan_base.proofs.Common.{arith, common_steps, All-more}
+use Rattle.certificate.specs.{FitsStep}
 use Rattle.certificate.proofs.printing.push_steps.Goals as goal
 
 pub loop-step-preserved : goal.loop-step-preserved

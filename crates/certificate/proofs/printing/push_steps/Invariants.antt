@@ -1,9 +1,7 @@
-use Rattle.std.proofs.Common.{◌≡◌, ◌++◌, take}
-use Rattle.std.specs.Prelude.{All}
-use Rattle.std.specs.List.{flat_map}
-use Rattle.plain_texts.specs.Lines.{with_feed}
+use Rattle.plan_base.proofs.Common.{◌≡◌, ◌++◌, take, All, flat_map}
+use Rattle.plain_texts.specs.{with_feed}
 use Rattle.certificate.specs.declared.lines.Line.TheVariants as line
-use Rattle.certificate.specs.Lines.{FitsStep, spelled}
+use Rattle.certificate.specs.{FitsStep, spelled}
 use Rattle.certificate.proofs.printing.push_steps.Given as goal
 
 abbrev pub invariant-loop-step : goal.invariant-loop-step

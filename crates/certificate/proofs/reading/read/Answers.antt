@@ -1,7 +1,5 @@
-use Rattle.certificate.proofs.Making.{gives_found, gives_only}
-use Rattle.certificate.specs.Reading.{cert_of}
-use Rattle.certificate.specs.Texts.{IsCertText}
-use Rattle.certificate.proofs.ReadLaws.{found, again, gives_cause}
+use Rattle.certificate.proofs.{Making.gives_found, Making.gives_only, ReadLaws.found, ReadLaws.again, ReadLaws.gives_cause}
+use Rattle.certificate.specs.{cert_of, IsCertText}
 use Rattle.certificate.proofs.reading.read.Goals as goal
 
 pub returns-clause-found : goal.returns-clause-found

@@ -1,5 +1,5 @@
 use mathlib.Core.Bool.{beq}
-use Rattle.std.proofs.Common.{◌≡◌, Bool, true, false, Decides, refl, sym}
+use Rattle.plan_base.proofs.Common.{◌≡◌, Bool, true, false, Decides, refl, sym}
 use Rattle.std.proofs.lemmas.Slice.Eq.{slice_eq-Decides}
 use Rattle.certificate.proofs.state_sets.are_same.Goals as goal
 

@@ -1,5 +1,4 @@
-use Rattle.std.proofs.Common.{arith}
-use Rattle.std.proofs.lemmas.Bool.Decides.{nat_tests}
+use Rattle.plan_base.proofs.Common.{arith, nat_tests}
 use Rattle.certificate.proofs.StateLemmas.{low_letter}
 use Rattle.certificate.proofs.state_sets.has_letter.Goals as goal
 

@@ -1,4 +1,4 @@
-use Rattle.certificate.specs.StateSets.{AreAdded, HasMoveBelow}
+use Rattle.certificate.specs.{AreAdded, HasMoveBelow}
 use Rattle.certificate.proofs.state_sets.mark_moves.Given as goal
 
 abbrev pub invariant-loop-i : goal.invariant-loop-i

@@ -1,4 +1,4 @@
-use Rattle.certificate.specs.StateSets.{AreAdded, HasMoveFrom}
+use Rattle.certificate.specs.{AreAdded, HasMoveFrom}
 use Rattle.certificate.proofs.state_sets.mark_states.Given as goal
 
 abbrev pub invariant-loop-state : goal.invariant-loop-state

@@ -1,4 +1,4 @@
-use Rattle.certificate.specs.StateSets.{AreKnown}
+use Rattle.certificate.specs.{AreKnown}
 use Rattle.certificate.proofs.state_sets.no_steps.Given as goal
 
 abbrev pub invariant-loop-letter : goal.invariant-loop-letter

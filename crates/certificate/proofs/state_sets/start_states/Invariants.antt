@@ -1,5 +1,5 @@
-use Rattle.std.proofs.Common.{◌≡◌, ℕ, ◌<◌, ◌↔◌, length, IsTrue}
-use Rattle.certificate.specs.StateSets.{IsInSet}
+use Rattle.plan_base.proofs.Common.{◌≡◌, ℕ, ◌<◌, ◌↔◌, length, IsTrue}
+use Rattle.certificate.specs.{IsInSet}
 use Rattle.certificate.proofs.state_sets.start_states.Given as goal
 
 abbrev pub invariant-loop-state : goal.invariant-loop-state

@@ -1,11 +1,8 @@
-use Rattle.std.proofs.Common.{◌≡◌, ℕ, List, ap, sym, ◌∙◌, subst, Bor}
-use Rattle.std.specs.Prelude.{IfOk, option_map}
-use Rattle.mode_expression.specs.Form.{form_of}
+use Rattle.plan_base.proofs.Common.{◌≡◌, ℕ, List, ap, sym, ◌∙◌, subst, Bor, IfOk, option_map}
+use Rattle.mode_expression.specs.{form_of}
 use Rattle.hierarchy.specs.declared.hierarchy.Hierarchy.{Hierarchy}
-use Rattle.journey.specs.Queries.{IsQuery}
-use Rattle.certificate.specs.declared.verdict.CertVerdict.TheVariants.{Valid}
-use Rattle.certificate.specs.Certificates.{Claim}
-use Rattle.certificate.specs.Valid.{HaveTimes, Proves}
+use Rattle.journey.specs.{IsQuery}
+use Rattle.certificate.specs.{declared.verdict.CertVerdict.TheVariants.Valid, Claim, HaveTimes, Proves}
 use Rattle.certificate.proofs.VerifyLemmas.{phases_fail, claim_is}
 use Rattle.certificate.proofs.verifying.verify.Goals as goal
 

@@ -1,14 +1,9 @@
-use Rattle.std.proofs.Common.{◌∙◌, List, ℕ, refl, sym, ap, subst, Bor}
-use Rattle.std.specs.Prelude.{option_map}
-use Rattle.automaton.specs.declared.positions.Positions.{Positions}
-use Rattle.automaton.specs.Meanings.{position_meaning}
-use Rattle.automaton.specs.Written.{written}
-use Rattle.automaton.specs.States.{IsPositionAutomaton}
+use Rattle.plan_base.proofs.Common.{◌∙◌, List, ℕ, refl, sym, ap, subst, Bor, option_map}
+use Rattle.automaton.specs.{Positions, position_meaning, written, IsPositionAutomaton}
 use Rattle.hierarchy.specs.declared.hierarchy.Hierarchy.{Hierarchy}
-use Rattle.phase_graph.specs.InUse.{IsInUse, starts_in, ends_in}
-use Rattle.phase_graph.specs.InUseGraph.{meaning_in_use}
-use Rattle.mode_expression.specs.Form.{form_of}
-use Rattle.certificate.specs.Verdicts.{IsCertVerdict, claim_on}
+use Rattle.phase_graph.specs.{IsInUse, starts_in, ends_in, meaning_in_use}
+use Rattle.mode_expression.specs.{form_of}
+use Rattle.certificate.specs.{IsCertVerdict, claim_on}
 use Rattle.certificate.proofs.VerifyLemmas.{few_copies, few_starts, low_nodes, automaton_denotes, labels_judged, valid_proves}
 use Rattle.certificate.proofs.verifying.verify_claim.Goals as goal
 

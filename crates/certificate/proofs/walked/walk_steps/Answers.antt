@@ -1,6 +1,5 @@
-use Rattle.std.proofs.Common.{ℕ, ◌+◌, ap, sym, subst, arith}
-use Rattle.std.proofs.lemmas.List.{get_or_default}
-use Rattle.journey.specs.Real.{IsFirstBad}
+use Rattle.plan_base.proofs.Common.{ℕ, ◌+◌, ap, sym, subst, arith, get_or_default}
+use Rattle.journey.specs.{IsFirstBad}
 use Rattle.certificate.proofs.WalkedLemmas.{walking_more, walking_ends, walked_all}
 use Rattle.certificate.proofs.walked.walk_steps.Goals as goal
 

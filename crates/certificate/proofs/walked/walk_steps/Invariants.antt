@@ -1,4 +1,4 @@
-use Rattle.std.proofs.Common.{◌≡◌}
+use Rattle.plan_base.proofs.Common.{◌≡◌}
 use Rattle.certificate.proofs.WalkedLemmas.{IsWalking}
 use Rattle.certificate.proofs.walked.walk_steps.Given as goal
 

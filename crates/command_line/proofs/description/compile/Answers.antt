@@ -1,6 +1,6 @@
 use Rattle.std.proofs.Common.{List, [], ◌∷◌, codes}
 use Rattle.clap.specs.Words.{Shape, Text, new_app}
-use Rattle.command_line.specs.Description.{command_of, single_word, two, four}
+use Rattle.command_line.specs.{command_of, single_word, two, four}
 use Rattle.command_line.proofs.description.compile.Goals as goal
 
 -- the command with these words and options

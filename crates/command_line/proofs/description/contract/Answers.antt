@@ -1,5 +1,5 @@
 use Rattle.std.proofs.Common.{[], codes}
-use Rattle.command_line.specs.Description.{command_of, single_word}
+use Rattle.command_line.specs.{command_of, single_word}
 use Rattle.command_line.proofs.description.contract.Goals as goal
 
 pub returns : goal.returns

@@ -1,6 +1,6 @@
 use Rattle.std.proofs.Common.{List, [], ◌∷◌, codes}
 use Rattle.clap.specs.Words.{Shape, Text}
-use Rattle.command_line.specs.Description.{command_of, two, four, six}
+use Rattle.command_line.specs.{command_of, two, four, six}
 use Rattle.command_line.proofs.description.matrix.Goals as goal
 
 -- the command with these words

@@ -1,8 +1,7 @@
-use Rattle.std.proofs.Common.{◌≡◌, ◌∙◌, ap, subst, codes}
-use Rattle.std.specs.Prelude.{IfOk, fold}
+use Rattle.std.proofs.Common.{◌≡◌, ◌∙◌, ap, subst, codes, IfOk, fold}
 use Rattle.clap.specs.Words.{App, app_of, new_app, with_subcommand}
 use Rattle.clap.specs.Simple.{app_of_fields}
-use Rattle.command_line.specs.Description.{region_commands, earliest_commands, latest_commands, many_commands}
+use Rattle.command_line.specs.{region_commands, earliest_commands, latest_commands, many_commands}
 use Rattle.command_line.proofs.description.modeplan.Goals as goal
 
 pub returns : goal.returns

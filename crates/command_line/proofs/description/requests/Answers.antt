@@ -1,5 +1,5 @@
 use Rattle.std.proofs.Common.{[], ◌∷◌, codes}
-use Rattle.command_line.specs.Description.{command_of, two}
+use Rattle.command_line.specs.{command_of, two}
 use Rattle.command_line.proofs.description.requests.Goals as goal
 
 pub returns : goal.returns

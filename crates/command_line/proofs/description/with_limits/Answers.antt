@@ -1,7 +1,6 @@
-use Rattle.std.proofs.Common.{[], ◌∷◌, ◌++◌, append_assoc, codes, subst}
-use Rattle.std.specs.Prelude.{IfOk, List}
+use Rattle.std.proofs.Common.{[], ◌∷◌, ◌++◌, append_assoc, codes, subst, IfOk, List}
 use Rattle.clap.specs.Words.{Rule}
-use Rattle.command_line.specs.Description.{IsToldToClap, option}
+use Rattle.command_line.specs.{IsToldToClap, option}
 use Rattle.command_line.proofs.description.with_limits.Goals as goal
 
 pub returns : goal.returns

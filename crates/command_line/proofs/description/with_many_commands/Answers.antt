@@ -1,7 +1,6 @@
-use Rattle.std.proofs.Common.{◌≡◌, ◌∙◌, [], ◌∷◌, ap, subst, codes}
-use Rattle.std.specs.Prelude.{IfOk}
+use Rattle.std.proofs.Common.{◌≡◌, ◌∙◌, [], ◌∷◌, ap, subst, codes, IfOk}
 use Rattle.clap.specs.Words.{App, app_of, with_subcommand}
-use Rattle.command_line.specs.Description.{command_of, limits, six, two}
+use Rattle.command_line.specs.{command_of, limits, six, two}
 use Rattle.command_line.proofs.description.with_many_commands.Goals as goal
 
 pub returns : goal.returns

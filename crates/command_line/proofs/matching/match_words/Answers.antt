@@ -1,5 +1,4 @@
-use Rattle.std.proofs.Common.{◌≡◌, true, List, [], Result, Ok, Err, IfOk, IfErr, map, refl, subst}
-use Rattle.std.specs.Prelude.{string_bytes}
+use Rattle.std.proofs.Common.{◌≡◌, true, List, [], Result, Ok, Err, IfOk, IfErr, map, refl, subst, string_bytes}
 use Rattle.clap.specs.Simple.{App, HasMatchesOf, is_simple, subcommand_of, subcommand_rows_of}
 use Rattle.clap.specs.Walk.{Text}
 use Rattle.clap.specs.Kinds.{FailsBy, HasKind, Kinds}
@@ -7,7 +6,7 @@ use Rattle.clap.specs.Faults.{fault_of, is_simple_and_free}
 use Rattle.clap.specs.declared.error.Error.{Error}
 use Rattle.clap.specs.declared.parser.matches.ArgMatches.{ArgMatches}
 use Rattle.clap.proofs.OnLiterals.{clap_on_literals}
-use Rattle.command_line.specs.Description.{modeplan}
+use Rattle.command_line.specs.{modeplan}
 use Rattle.command_line.proofs.matching.match_words.Goals as goal
 
 simple : is_simple modeplan ≡ true

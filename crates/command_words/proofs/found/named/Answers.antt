@@ -1,5 +1,5 @@
 use Rattle.clap.specs.Words.{found_of, rows_of}
-use Rattle.command_words.specs.Requests.{commands}
+use Rattle.command_words.specs.{commands}
 use Rattle.command_words.proofs.NameLemmas.{asks_for_none}
 use Rattle.command_words.proofs.found.named.Goals as goal
 

@@ -1,16 +1,13 @@
-use Rattle.std.proofs.Common.{ℕ, List, inr, refl}
-use Rattle.std.proofs.lemmas.Result.{err_from_is_err_and}
-use Rattle.plan_base.specs.declared.limits.Caps.{Caps}
+use Rattle.plan_base.proofs.Common.{ℕ, List, inr, err_from_is_err_and}
+use Rattle.plan_base.specs.{Caps}
 use Rattle.plan_base.proofs.MoreWritten.{stays_so}
 use Rattle.service_days.specs.DaysMeaning.{DaysMeaning}
 use Rattle.opl_reader.specs.ObjectLists.{ObjectLists}
 use Rattle.gtfs_tables.specs.FeedLists.{FeedLists}
-use Rattle.region_file.specs.declared.format.Format.{Format}
-use Rattle.run_steps.specs.Sayings.{Saying, WritesText}
-use Rattle.compile_commands.specs.Feeds.{OnFeed}
-use Rattle.compile_commands.specs.Builds.{OnBuild}
+use Rattle.region_file.specs.{Format}
+use Rattle.run_steps.specs.{Saying, WritesText}
+use Rattle.compile_commands.specs.{OnFeed, OnBuild, IsRegionFile}
 use Rattle.compile_commands.proofs.Steps.{map_fails, on_map, feed_fails, on_feed, build_fails}
-use Rattle.compile_commands.specs.Outputs.{IsRegionFile}
 use Rattle.compile_commands.proofs.compiling.compile.Goals as goal
 
 -- what the rest of a run says, once the map and the feed are read

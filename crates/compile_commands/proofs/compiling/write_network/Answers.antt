@@ -1,4 +1,4 @@
-use Rattle.compile_commands.specs.Outputs.{IsRegionFile}
+use Rattle.compile_commands.specs.{IsRegionFile}
 use Rattle.run_steps.proofs.Steps.{text_ends}
 use Rattle.compile_commands.proofs.compiling.write_network.Goals as goal
 

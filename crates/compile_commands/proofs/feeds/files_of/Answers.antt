@@ -1,7 +1,6 @@
-use Rattle.std.proofs.Common.{◌∙◌, sym, map}
-use Rattle.std.specs.Prelude.{option_map}
+use Rattle.plan_base.proofs.Common.{◌∙◌, sym, map, option_map}
 use Rattle.gtfs_tables.specs.declared.files.FeedFile.TheVariants as file
-use Rattle.compile_commands.specs.Feeds.{feed_files_of, text_of}
+use Rattle.compile_commands.specs.{feed_files_of, text_of}
 use Rattle.compile_commands.proofs.FeedLemmas.{lent_is, same_feed}
 use Rattle.compile_commands.proofs.feeds.files_of.Goals as goal
 

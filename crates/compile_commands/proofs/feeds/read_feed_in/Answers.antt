@@ -1,8 +1,6 @@
-use Rattle.std.proofs.Common.{ℕ, List, Option, map, Global, Vec, subst}
-use Rattle.std.specs.Prelude.{option_map}
-use Rattle.compile_commands.specs.inside.Working.{IsListsOutcome}
-use Rattle.compile_commands.proofs.FeedLemmas.{lists_fail}
-use Rattle.compile_commands.proofs.ResultLemmas.{err_more}
+use Rattle.plan_base.proofs.Common.{ℕ, List, Option, map, Vec, subst, option_map, Global}
+use Rattle.compile_commands.specs.inside.{IsListsOutcome}
+use Rattle.compile_commands.proofs.{FeedLemmas.lists_fail, ResultLemmas.err_more}
 use Rattle.compile_commands.proofs.feeds.read_feed_in.Goals as goal
 
 pub returns-clause-err : goal.returns-clause-err

@@ -1,5 +1,4 @@
-use Rattle.std.proofs.lemmas.List.{map-append}
-use Rattle.std.proofs.lemmas.Result.{err_from_is_err_and}
+use Rattle.plan_base.proofs.Common.{map-append, err_from_is_err_and}
 use Rattle.gtfs_tables.specs.declared.files.FeedFile.TheVariants as file
 use Rattle.run_steps.proofs.Steps.{later_twice}
 use Rattle.compile_commands.proofs.FeedLemmas.{memory_at, tables_at, unread_at}

@@ -1,7 +1,6 @@
-use Rattle.std.proofs.Common.{take, map}
-use Rattle.std.specs.Prelude.{option_map}
-use Rattle.plan_base.specs.Shelves.{IsLater}
-use Rattle.compile_commands.specs.Feeds.{AreTables}
+use Rattle.plan_base.proofs.Common.{take, map, option_map}
+use Rattle.plan_base.specs.{IsLater}
+use Rattle.compile_commands.specs.{AreTables}
 use Rattle.compile_commands.proofs.feeds.read_tables.Given as goal
 
 -- the files so far hold these texts

@@ -1,9 +1,7 @@
-use Rattle.std.proofs.Common.{ℕ, rules, arith, subst}
-use Rattle.std.proofs.lemmas.Result.{err_from_is_err_and}
-use Rattle.plan_base.specs.Shelves.{Gave}
+use Rattle.plan_base.proofs.Common.{ℕ, rules, arith, subst, err_from_is_err_and}
+use Rattle.plan_base.specs.{Gave}
 use Rattle.run_steps.proofs.Steps.{later_twice, not_earlier}
-use Rattle.compile_commands.proofs.MapLemmas.{starts, fed_more, too_long, piece_fails, read_whole_map, end_fails}
-use Rattle.compile_commands.proofs.ResultLemmas.{ok_more, err_more}
+use Rattle.compile_commands.proofs.{MapLemmas.starts, MapLemmas.fed_more, MapLemmas.too_long, MapLemmas.piece_fails, MapLemmas.read_whole_map, MapLemmas.end_fails, ResultLemmas.ok_more, ResultLemmas.err_more}
 use Rattle.compile_commands.proofs.maps.read_map.Goals as goal
 
 pub pieces-init : goal.pieces-init

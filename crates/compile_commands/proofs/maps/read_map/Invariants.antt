@@ -1,6 +1,6 @@
-use Rattle.std.proofs.Common.{◌+◌, ◌-◌, ◌≤◌, ◌^◌}
-use Rattle.plan_base.specs.Shelves.{IsLater}
-use Rattle.compile_commands.specs.inside.Working.{HasFed}
+use Rattle.plan_base.proofs.Common.{◌+◌, ◌-◌, ◌≤◌, ◌^◌}
+use Rattle.plan_base.specs.{IsLater}
+use Rattle.compile_commands.specs.inside.{HasFed}
 use Rattle.compile_commands.proofs.maps.read_map.Given as goal
 
 -- the reader took a front of the map, of so many bytes, and no more than a file may have

@@ -1,8 +1,7 @@
-use Rattle.std.proofs.Common.{◌≤◌, List, [], None, length, get_or, subst}
-use Rattle.mode_network.specs.declared.nodes.Arc.{Arc}
-use Rattle.contractor.specs.inside.Layers.{IsEntryPlaced}
-use Rattle.contractor.proofs.PutLemmas.{placeable}
-use Rattle.contractor.proofs.BeginLemmas.{arc_at, arc_low, arcs_more, begun}
+use Rattle.plan_base.proofs.Common.{◌≤◌, List, [], None, length, get_or, subst}
+use Rattle.mode_network.specs.{Arc}
+use Rattle.contractor.specs.inside.{IsEntryPlaced}
+use Rattle.contractor.proofs.{PutLemmas.placeable, BeginLemmas.arc_at, BeginLemmas.arc_low, BeginLemmas.arcs_more, BeginLemmas.begun}
 use Rattle.contractor.proofs.beginning.begin.Goals as goal
 
 abbrev nothing : Arc

@@ -1,4 +1,4 @@
-use Rattle.contractor.specs.inside.Layers.{AreArcs}
+use Rattle.contractor.specs.inside.{AreArcs}
 use Rattle.contractor.proofs.beginning.begin.Given as goal
 
 abbrev pub invariant-arcs : goal.invariant-arcs

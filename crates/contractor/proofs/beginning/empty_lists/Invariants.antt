@@ -1,5 +1,5 @@
-use Rattle.std.proofs.Common.{◌≤◌, ◌-◌, length}
-use Rattle.contractor.specs.inside.Layers.{AreEmptyLists}
+use Rattle.plan_base.proofs.Common.{◌≤◌, ◌-◌, length}
+use Rattle.contractor.specs.inside.{AreEmptyLists}
 use Rattle.contractor.proofs.beginning.empty_lists.Given as goal
 
 abbrev pub invariant-lists : goal.invariant-lists

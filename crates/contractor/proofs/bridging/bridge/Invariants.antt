@@ -1,5 +1,5 @@
-use Rattle.std.proofs.Common.{◌≡◌, ◌-◌, ◌≤◌, length}
-use Rattle.contractor.specs.inside.Layers.{IsBridging}
+use Rattle.plan_base.proofs.Common.{◌≡◌, ◌-◌, ◌≤◌, length}
+use Rattle.contractor.specs.inside.{IsBridging}
 use Rattle.contractor.proofs.bridging.bridge.Given as goal
 
 abbrev pub invariant-starts : goal.invariant-starts

@@ -1,7 +1,6 @@
-use Rattle.std.proofs.Common.{◌≡◌, ◌∙◌, List, subst, sym, arith}
-use Rattle.witness.specs.inside.Searching.{IsSearch, NobodyBusy}
-use Rattle.contractor.specs.declared.way.Way.{Way}
-use Rattle.contractor.specs.inside.Layers.{IsBridging, IsEndOf}
+use Rattle.plan_base.proofs.Common.{◌≡◌, ◌∙◌, List, subst, sym, arith}
+use Rattle.witness.specs.inside.{IsSearch, NobodyBusy}
+use Rattle.contractor.specs.{declared.way.Way.Way, inside.IsBridging, inside.IsEndOf}
 use Rattle.contractor.proofs.BridgeLemmas.{search_for}
 use Rattle.contractor.proofs.bridging.bridge_from.Goals as goal
 

@@ -1,7 +1,6 @@
-use Rattle.std.proofs.Common.{◌≡◌, ◌-◌, ◌≤◌, length, get_or}
-use Rattle.witness.specs.inside.Searching.{IsSearch, NobodyBusy}
-use Rattle.contractor.specs.declared.way.Way.{Way}
-use Rattle.contractor.specs.inside.Layers.{IsBridging}
+use Rattle.plan_base.proofs.Common.{◌≡◌, ◌-◌, ◌≤◌, length, get_or}
+use Rattle.witness.specs.inside.{IsSearch, NobodyBusy}
+use Rattle.contractor.specs.{declared.way.Way.Way, inside.IsBridging}
 use Rattle.contractor.proofs.bridging.bridge_from.Given as goal
 
 abbrev pub invariant-ways : goal.invariant-ways

@@ -1,13 +1,7 @@
-use Rattle.std.proofs.Common.{◌∙◌, List, ◌++◌, ◌∷◌, [], sym, subst}
-use Rattle.std.specs.Prelude.{Vec}
-use Rattle.std.specs.declared.alloc.Global.{Global}
-use Rattle.std.proofs.lemmas.List.{get_or_default}
-use Rattle.witness.specs.declared.edge.Edge.{Edge}
-use Rattle.witness.specs.Rows.{AreEdgeRows, IsWalkWithin, NoWalkWithin}
-use Rattle.witness.specs.inside.Searching.{IsSearch, IsEdgePut, IsWalkOffered, NobodyBusy}
+use Rattle.plan_base.proofs.Common.{◌∙◌, List, ◌++◌, ◌∷◌, [], sym, subst, Vec, Global, get_or_default}
+use Rattle.witness.specs.{Edge, AreEdgeRows, IsWalkWithin, NoWalkWithin, inside.IsSearch, inside.IsEdgePut, inside.IsWalkOffered, inside.NobodyBusy}
 use Rattle.witness.proofs.SearchLemmas.{put_search}
-use Rattle.contractor.specs.declared.way.Way.{Way}
-use Rattle.contractor.specs.inside.Layers.{IsSearchFor}
+use Rattle.contractor.specs.{declared.way.Way.Way, inside.IsSearchFor}
 use Rattle.contractor.proofs.BridgeLemmas.{rows_are, inside, left_from, left_to, can_put, shortcut_more, witness_more}
 use Rattle.contractor.proofs.bridging.bridge_way.Goals as goal
 

@@ -1,4 +1,4 @@
-use Rattle.std.proofs.Common.{refl}
+use Rattle.plan_base.proofs.Common.{refl}
 use Rattle.contractor.specs.declared.layer.Layer.{Layer}
 use Rattle.contractor.proofs.BridgeLemmas.{sides_inside, sides_light, edges_light, ways_now, bridging_now, contracted}
 use Rattle.contractor.proofs.bridging.contract_node.Goals as goal

@@ -1,5 +1,5 @@
-use Rattle.std.proofs.Common.{length, ◌-◌}
-use Rattle.contractor.specs.inside.Layers.{IsEndOf}
+use Rattle.plan_base.proofs.Common.{length, ◌-◌}
+use Rattle.contractor.specs.inside.{IsEndOf}
 use Rattle.contractor.proofs.bridging.end_of.Given as goal
 
 abbrev pub invariant-ways : goal.invariant-ways

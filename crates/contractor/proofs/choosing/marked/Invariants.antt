@@ -1,5 +1,4 @@
-use Rattle.std.proofs.Common.{◌≡◌, take}
-use Rattle.std.specs.Prelude.{count_by}
+use Rattle.plan_base.proofs.Common.{◌≡◌, take, count_by}
 use Rattle.contractor.proofs.choosing.marked.Given as goal
 
 abbrev pub invariant-nodes : goal.invariant-nodes

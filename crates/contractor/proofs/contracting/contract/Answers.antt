@@ -1,4 +1,4 @@
-use Rattle.std.proofs.Common.{◌∙◌, ◌-◌, ap}
+use Rattle.plan_base.proofs.Common.{◌∙◌, ◌-◌, ap}
 use Rattle.contractor.proofs.WaitingLemmas.{is_contracted}
 use Rattle.contractor.proofs.contracting.contract.Goals as goal
 

@@ -1,7 +1,5 @@
-use Rattle.std.proofs.Common.{◌≡◌, ◌∙◌, ◌+◌, ◌-◌, List, Bool, Some, true, length, set, false, subst, ap, arith}
-use Rattle.std.specs.Prelude.{slice_get}
-use Rattle.std.proofs.lemmas.List.{length_push}
-use Rattle.contractor.specs.inside.Layers.{AreWaiting}
+use Rattle.plan_base.proofs.Common.{◌≡◌, ◌∙◌, ◌+◌, ◌-◌, List, Bool, Some, true, length, set, false, subst, ap, arith, slice_get, length_push}
+use Rattle.contractor.specs.inside.{AreWaiting}
 use Rattle.contractor.proofs.WaitingLemmas.{waiting_less}
 use Rattle.contractor.proofs.contracting.contract_nodes.Goals as goal
 

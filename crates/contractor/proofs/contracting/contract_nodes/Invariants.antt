@@ -1,6 +1,6 @@
-use Rattle.std.proofs.Common.{◌≡◌, ◌+◌, ◌-◌, length}
-use Rattle.mode_network.specs.NetworkLists.{nodes_of}
-use Rattle.contractor.specs.inside.Layers.{IsState, AreWaiting}
+use Rattle.plan_base.proofs.Common.{◌≡◌, ◌+◌, ◌-◌, length}
+use Rattle.mode_network.specs.{nodes_of}
+use Rattle.contractor.specs.inside.{IsState, AreWaiting}
 use Rattle.contractor.proofs.contracting.contract_nodes.Given as goal
 
 abbrev pub invariant-nodes : goal.invariant-nodes

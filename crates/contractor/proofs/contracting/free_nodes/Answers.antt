@@ -1,4 +1,4 @@
-use Rattle.std.proofs.Common.{◌≡◌, ◌∙◌, ◌+◌, Bool, true, false, refl, ap}
+use Rattle.plan_base.proofs.Common.{◌≡◌, ◌∙◌, ◌+◌, Bool, true, false, refl, ap}
 use mir.Val.{bool_byte}
 use Rattle.contractor.proofs.WaitingLemmas.{node_more, as_number}
 use Rattle.contractor.proofs.contracting.free_nodes.Goals as goal

@@ -1,7 +1,6 @@
-use Rattle.std.proofs.Common.{◌≡◌, ◌≤◌, ℕ, length, Some, true}
-use Rattle.std.specs.Prelude.{count_by, slice_get}
-use Rattle.hierarchy.specs.Soundness.{IsFree}
-use Rattle.contractor.specs.Contracted.{free_below}
+use Rattle.plan_base.proofs.Common.{◌≡◌, ◌≤◌, ℕ, length, Some, true, count_by, slice_get}
+use Rattle.hierarchy.specs.{IsFree}
+use Rattle.contractor.specs.{free_below}
 use Rattle.contractor.proofs.contracting.free_nodes.Given as goal
 
 abbrev pub invariant-nodes : goal.invariant-nodes

@@ -1,10 +1,6 @@
-use Rattle.std.proofs.Common.{◌∙◌, ℕ, List, ◌<◌, length, refl, sym, subst}
-use Rattle.std.specs.Prelude.{All, Vec}
-use Rattle.std.specs.declared.alloc.Global.{Global}
-use Rattle.std.proofs.lemmas.List.Elements.{All-contains}
-use Rattle.witness.specs.declared.edge.Edge.{Edge}
-use Rattle.contractor.specs.declared.layer.Layer.{Layer}
-use Rattle.contractor.specs.inside.Layers.{FitsRows, AreSides, IsCut}
+use Rattle.plan_base.proofs.Common.{◌∙◌, ℕ, List, ◌<◌, length, refl, sym, subst, All, Vec, Global, All-contains}
+use Rattle.witness.specs.{Edge}
+use Rattle.contractor.specs.{declared.layer.Layer.Layer, inside.FitsRows, inside.AreSides, inside.IsCut}
 use Rattle.contractor.proofs.CutLemmas.{nodes_fit, edges_fit, first_are, second_are, cut_layer}
 use Rattle.contractor.proofs.cutting.cut.Goals as goal
 

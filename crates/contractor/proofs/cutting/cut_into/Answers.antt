@@ -1,7 +1,5 @@
-use Rattle.std.proofs.Common.{◌∙◌, ℕ, ◌<◌, not, nat_eq, length, get_or, ap, sym, arith}
-use Rattle.std.specs.Prelude.{filter}
-use Rattle.contractor.proofs.RowLemmas.{into_read}
-use Rattle.contractor.proofs.CutLemmas.{less_more}
+use Rattle.plan_base.proofs.Common.{◌∙◌, ℕ, ◌<◌, not, nat_eq, length, get_or, ap, sym, arith, filter}
+use Rattle.contractor.proofs.{RowLemmas.into_read, CutLemmas.less_more}
 use Rattle.contractor.proofs.cutting.cut_into.Goals as goal
 
 pub after-preserved : goal.after-preserved

@@ -1,4 +1,4 @@
-use Rattle.contractor.specs.inside.Layers.{IsLessInto}
+use Rattle.contractor.specs.inside.{IsLessInto}
 use Rattle.contractor.proofs.cutting.cut_into.Given as goal
 
 abbrev pub invariant-after : goal.invariant-after

@@ -1,8 +1,6 @@
-use Rattle.std.proofs.Common.{◌∙◌, ◌<◌, not, nat_eq, length, get_or, refl, ap, sym, arith}
-use Rattle.std.specs.Prelude.{filter}
-use Rattle.witness.specs.declared.edge.Edge.{Edge}
-use Rattle.contractor.proofs.RowLemmas.{row_read}
-use Rattle.contractor.proofs.CutLemmas.{cut_more}
+use Rattle.plan_base.proofs.Common.{◌∙◌, ◌<◌, not, nat_eq, length, get_or, refl, ap, sym, arith, filter}
+use Rattle.witness.specs.{Edge}
+use Rattle.contractor.proofs.{RowLemmas.row_read, CutLemmas.cut_more}
 use Rattle.contractor.proofs.cutting.cut_rows.Goals as goal
 
 pub nodes-preserved : goal.nodes-preserved

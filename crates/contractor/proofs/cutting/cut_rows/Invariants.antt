@@ -1,5 +1,5 @@
-use Rattle.std.proofs.Common.{take}
-use Rattle.contractor.specs.inside.Layers.{IsCut}
+use Rattle.plan_base.proofs.Common.{take}
+use Rattle.contractor.specs.inside.{IsCut}
 use Rattle.contractor.proofs.cutting.cut_rows.Given as goal
 
 abbrev pub invariant-nodes : goal.invariant-nodes

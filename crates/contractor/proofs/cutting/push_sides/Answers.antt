@@ -1,10 +1,8 @@
-use Rattle.std.proofs.Common.{◌+◌, ◌∙◌, List, take, sym, ap, subst}
-use Rattle.witness.specs.declared.edge.Edge.{Edge}
-use Rattle.contractor.specs.declared.way.Side.{Side}
-use Rattle.contractor.specs.inside.Layers.{AreSidesOf}
-use Rattle.contractor.proofs.CutLemmas.{sides_begin, side_more, side_passed}
+use Rattle.plan_base.proofs.Common.{◌+◌, ◌∙◌, List, take, sym, ap, subst}
+use Rattle.witness.specs.{Edge}
+use Rattle.contractor.specs.{declared.way.Side.Side, inside.AreSidesOf}
+use Rattle.contractor.proofs.{CutLemmas.sides_begin, CutLemmas.side_more, CutLemmas.side_passed, cutting.push_sides.Goals.then-edge-x+in_ok-push, cutting.push_sides.Goals.else-edge-x}
 use Rattle.contractor.proofs.cutting.push_sides.Goals as goal
-use Rattle.contractor.proofs.cutting.push_sides.Goals.{then-edge-x+in_ok-push, else-edge-x}
 
 pub edges-init : goal.edges-init
 edges-init c = sides_begin c.args.u c.args.x c.args.sides.now.items

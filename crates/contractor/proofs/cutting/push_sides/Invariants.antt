@@ -1,5 +1,5 @@
-use Rattle.std.proofs.Common.{take}
-use Rattle.contractor.specs.inside.Layers.{AreSidesOf}
+use Rattle.plan_base.proofs.Common.{take}
+use Rattle.contractor.specs.inside.{AreSidesOf}
 use Rattle.contractor.proofs.cutting.push_sides.Given as goal
 
 abbrev pub invariant-edges : goal.invariant-edges

@@ -1,6 +1,5 @@
-use Rattle.std.proofs.Common.{◌∙◌, get_or, refl, sym}
-use Rattle.contractor.proofs.RowLemmas.{row_read}
-use Rattle.contractor.proofs.CutLemmas.{sides_more}
+use Rattle.plan_base.proofs.Common.{◌∙◌, get_or, refl, sym}
+use Rattle.contractor.proofs.{RowLemmas.row_read, CutLemmas.sides_more}
 use Rattle.contractor.proofs.cutting.sides_of.Goals as goal
 
 pub nodes-preserved : goal.nodes-preserved

@@ -1,5 +1,5 @@
-use Rattle.std.proofs.Common.{take}
-use Rattle.contractor.specs.inside.Layers.{AreSides}
+use Rattle.plan_base.proofs.Common.{take}
+use Rattle.contractor.specs.inside.{AreSides}
 use Rattle.contractor.proofs.cutting.sides_of.Given as goal
 
 abbrev pub invariant-nodes : goal.invariant-nodes

@@ -1,7 +1,6 @@
-use Rattle.std.proofs.Common.{rules, subst, sym, ℕ}
-use Rattle.std.proofs.lemmas.List.Sorted.{answers_always}
-use Rattle.hierarchy.specs.declared.entry.Entry.{Entry}
-use Rattle.contractor.specs.inside.Layers.{IsFinished}
+use Rattle.plan_base.proofs.Common.{rules, subst, sym, ℕ, answers_always}
+use Rattle.hierarchy.specs.{Entry}
+use Rattle.contractor.specs.inside.{IsFinished}
 use Rattle.contractor.proofs.FinishLemmas.{is_hierarchy, finished}
 use Rattle.contractor.proofs.finishing.finish.Goals as goal
 

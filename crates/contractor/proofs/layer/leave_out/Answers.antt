@@ -1,5 +1,4 @@
-use Rattle.std.proofs.Common.{rules}
-use Rattle.std.proofs.lemmas.Fn.{filter_same}
+use Rattle.plan_base.proofs.Common.{rules, filter_same}
 use Rattle.contractor.proofs.layer.leave_out.Goals as goal
 
 pub returns : goal.returns

@@ -1,6 +1,5 @@
-use Rattle.std.proofs.Common.{◌≢◌, take}
-use Rattle.std.specs.Prelude.{All}
-use Rattle.witness.specs.declared.edge.Edge.{Edge}
+use Rattle.plan_base.proofs.Common.{◌≢◌, take, All}
+use Rattle.witness.specs.{Edge}
 use Rattle.contractor.proofs.layer.number_between.Given as goal
 
 abbrev pub invariant-loop-edge : goal.invariant-loop-edge

@@ -1,5 +1,5 @@
-use Rattle.std.proofs.Common.{◌++◌, ◌∷◌, []}
-use Rattle.contractor.specs.inside.Partway.{shortcut_of}
+use Rattle.plan_base.proofs.Common.{◌++◌, ◌∷◌, []}
+use Rattle.contractor.specs.inside.{shortcut_of}
 use Rattle.contractor.proofs.PutLemmas.{edge_put, put_is, put_layer, placeable}
 use Rattle.contractor.proofs.layer.put.Goals as goal
 

@@ -1,10 +1,8 @@
-use Rattle.std.proofs.Common.{◌+◌, List, take, sym, ap, subst}
-use Rattle.witness.specs.declared.edge.Edge.{Edge}
-use Rattle.contractor.specs.declared.way.Way.{Way}
-use Rattle.contractor.specs.inside.Layers.{AreWaysWith}
-use Rattle.contractor.proofs.WayLemmas.{ways_begin, way_more, way_back}
+use Rattle.plan_base.proofs.Common.{◌+◌, List, take, sym, ap, subst}
+use Rattle.witness.specs.{Edge}
+use Rattle.contractor.specs.{declared.way.Way.Way, inside.AreWaysWith}
+use Rattle.contractor.proofs.{WayLemmas.ways_begin, WayLemmas.way_more, WayLemmas.way_back, ways.push_ways.Goals.then-side-edge+in_ok-push_way, ways.push_ways.Goals.else-side-edge}
 use Rattle.contractor.proofs.ways.push_ways.Goals as goal
-use Rattle.contractor.proofs.ways.push_ways.Goals.{then-side-edge+in_ok-push_way, else-side-edge}
 
 pub second-init : goal.second-init
 second-init c = ways_begin c.args.row.now c.args.side c.args.ways.now.items

@@ -1,5 +1,5 @@
-use Rattle.std.proofs.Common.{take}
-use Rattle.contractor.specs.inside.Layers.{AreWaysWith}
+use Rattle.plan_base.proofs.Common.{take}
+use Rattle.contractor.specs.inside.{AreWaysWith}
 use Rattle.contractor.proofs.ways.push_ways.Given as goal
 
 abbrev pub invariant-second : goal.invariant-second

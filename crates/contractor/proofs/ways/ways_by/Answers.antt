@@ -1,12 +1,7 @@
-use Rattle.std.proofs.Common.{◌∙◌, ◌<◌, List, length, get_or, sym, subst}
-use Rattle.std.specs.Prelude.{All}
-use Rattle.std.proofs.lemmas.List.{take_all}
-use Rattle.std.proofs.lemmas.List.Filters.{dedup_is}
-use Rattle.witness.specs.declared.edge.Edge.{Edge}
-use Rattle.contractor.specs.declared.way.Side.{Side}
-use Rattle.contractor.specs.inside.Layers.{AreWaysWith}
-use Rattle.contractor.proofs.RowLemmas.{row_read}
-use Rattle.contractor.proofs.WayLemmas.{AreWaysSoFar, sides_more, in_order, same_is}
+use Rattle.plan_base.proofs.Common.{◌∙◌, ◌<◌, List, length, get_or, sym, subst, All, take_all, dedup_is}
+use Rattle.witness.specs.{Edge}
+use Rattle.contractor.specs.{declared.way.Side.Side, inside.AreWaysWith}
+use Rattle.contractor.proofs.{RowLemmas.row_read, WayLemmas.AreWaysSoFar, WayLemmas.sides_more, WayLemmas.in_order, WayLemmas.same_is}
 use Rattle.contractor.proofs.ways.ways_by.Goals as goal
 
 pub first-preserved : goal.first-preserved

@@ -1,4 +1,4 @@
-use Rattle.std.proofs.Common.{take}
+use Rattle.plan_base.proofs.Common.{take}
 use Rattle.contractor.proofs.WayLemmas.{AreWaysSoFar}
 use Rattle.contractor.proofs.ways.ways_by.Given as goal
 

@@ -1,5 +1,4 @@
-use Rattle.std.proofs.Common.{inl}
-use Rattle.std.proofs.lemmas.Result.{IfOk-weaker}
+use Rattle.plan_base.proofs.Common.{inl, IfOk-weaker}
 use Rattle.latest_departure.proofs.TextLemmas.{refused_told}
 use Rattle.departures.proofs.blocks.profile_block.Goals as goal
 

@@ -1,4 +1,4 @@
-use Rattle.std.proofs.lemmas.Result.{on_ok_weaker}
+use Rattle.plan_base.proofs.Common.{on_ok_weaker}
 use Rattle.departures.proofs.TextLemmas.{row_told}
 use Rattle.departures.proofs.blocks.push_row.Goals as goal
 

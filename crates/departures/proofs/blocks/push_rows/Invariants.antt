@@ -1,6 +1,6 @@
-use Rattle.std.proofs.Common.{take}
-use Rattle.journey.specs.Blocks.{AddsText}
-use Rattle.departures.specs.Blocks.{AreRowsTold}
+use Rattle.plan_base.proofs.Common.{take}
+use Rattle.journey.specs.{AddsText}
+use Rattle.departures.specs.{AreRowsTold}
 use Rattle.departures.proofs.blocks.push_rows.Given as goal
 
 abbrev pub invariant-loop-row : goal.invariant-loop-row

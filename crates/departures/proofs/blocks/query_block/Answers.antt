@@ -1,9 +1,8 @@
-use Rattle.std.proofs.Common.{◌∙◌, ap, subst, arith}
-use Rattle.std.proofs.lemmas.Result.{IfOk-weaker}
-use Rattle.service_days.specs.Days.{AreDays, AreRisingDays}
+use Rattle.plan_base.proofs.Common.{◌∙◌, ap, subst, arith, IfOk-weaker}
+use Rattle.service_days.specs.{AreDays, AreRisingDays}
 use Rattle.mode_network.specs.NetworkLists.{NetworkLists}
-use Rattle.mode_expression.specs.Form.{form_of}
-use Rattle.journey.specs.Best.{asked_by}
+use Rattle.mode_expression.specs.{form_of}
+use Rattle.journey.specs.{asked_by}
 use Rattle.kept_automata.proofs.TextLemmas.{query_spells}
 use Rattle.latest_departure.proofs.DeadlineLemmas.{deadline_is_small}
 use Rattle.departures.proofs.TextLemmas.{right_block}

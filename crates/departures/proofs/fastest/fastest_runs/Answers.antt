@@ -1,9 +1,6 @@
-use Rattle.std.proofs.Common.{◌≡◌, ◌+◌, ◌<◌, ◌∙◌, [], ◌∷◌, ◌++◌, List, sym, subst, ap, arith}
-use Rattle.timetable_arcs.specs.declared.trips.Instance.{Instance}
-use Rattle.timetable_arcs.specs.declared.rides.Ride.{Ride}
-use Rattle.departures.specs.declared.fastest.FastestCall.{FastestCall}
-use Rattle.departures.specs.Fastest.{IsNoFaster}
-use Rattle.departures.specs.inside.Stretches.{calls_from}
+use Rattle.plan_base.proofs.Common.{◌≡◌, ◌+◌, ◌<◌, ◌∙◌, [], ◌∷◌, ◌++◌, List, sym, subst, ap, arith}
+use Rattle.timetable_arcs.specs.{Instance, Ride}
+use Rattle.departures.specs.{FastestCall, IsNoFaster, inside.calls_from}
 use Rattle.departures.proofs.FastestLemmas.{none_faster_more}
 use Rattle.departures.proofs.fastest.fastest_runs.Goals as goal
 

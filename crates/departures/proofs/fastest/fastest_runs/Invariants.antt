@@ -1,7 +1,6 @@
-use Rattle.std.proofs.Common.{◌≡◌, ◌<◌, length}
-use Rattle.timetable_arcs.specs.declared.trips.Instance.{Instance}
-use Rattle.timetable_arcs.specs.declared.rides.Ride.{Ride}
-use Rattle.departures.specs.Fastest.{IsNoFaster}
+use Rattle.plan_base.proofs.Common.{◌≡◌, ◌<◌, length}
+use Rattle.timetable_arcs.specs.{Instance, Ride}
+use Rattle.departures.specs.{IsNoFaster}
 use Rattle.departures.proofs.fastest.fastest_runs.Given as goal
 
 abbrev pub invariant-loop-pattern : goal.invariant-loop-pattern

@@ -1,5 +1,5 @@
-use Rattle.std.proofs.Common.{◌≡◌, ◌++◌, drop}
-use Rattle.departures.specs.inside.Stretches.{calls_from}
+use Rattle.plan_base.proofs.Common.{◌≡◌, ◌++◌, drop}
+use Rattle.departures.specs.inside.{calls_from}
 use Rattle.departures.proofs.fastest.run_of.Given as goal
 
 abbrev pub invariant-loop-stretch : goal.invariant-loop-stretch

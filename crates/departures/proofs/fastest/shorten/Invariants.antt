@@ -1,5 +1,5 @@
-use Rattle.std.proofs.Common.{ℕ, ◌+◌, ◌<◌, length}
-use Rattle.departures.specs.inside.Stretches.{AreShortened, FitsBetweenCalls}
+use Rattle.plan_base.proofs.Common.{ℕ, ◌+◌, ◌<◌, length}
+use Rattle.departures.specs.inside.{AreShortened, FitsBetweenCalls}
 use Rattle.departures.proofs.fastest.shorten.Given as goal
 
 abbrev pub invariant-loop-k : goal.invariant-loop-k

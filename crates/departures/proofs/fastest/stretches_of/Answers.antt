@@ -1,13 +1,8 @@
-use Rattle.std.proofs.Common.{◌≡◌, ◌+◌, List, Option, length, sym, subst, arith}
-use Rattle.std.proofs.lemmas.List.{with_items_is}
-use Rattle.timetable_arcs.specs.declared.trips.Call.{Call}
-use Rattle.timetable_arcs.specs.declared.trips.Instance.{Instance}
-use Rattle.timetable_arcs.specs.Runs.{IsNextRun}
-use Rattle.timetable_arcs.proofs.TableLemmas.{trip_of_pattern, departs_small}
-use Rattle.timetable_arcs.proofs.TripLemmas.{trip_well}
+use Rattle.plan_base.proofs.Common.{◌≡◌, ◌+◌, List, Option, length, sym, subst, arith, with_items_is}
+use Rattle.timetable_arcs.specs.{Call, Instance, IsNextRun}
+use Rattle.timetable_arcs.proofs.{TableLemmas.trip_of_pattern, TableLemmas.departs_small, TripLemmas.trip_well}
 use Rattle.plain_graph.proofs.RunLemmas.{is_there}
-use Rattle.departures.specs.declared.fastest.Stretch.{Stretch}
-use Rattle.departures.specs.inside.Stretches.{AreShortened, FitBetweenCalls}
+use Rattle.departures.specs.{declared.fastest.Stretch.Stretch, inside.AreShortened, inside.FitBetweenCalls}
 use Rattle.departures.proofs.FastestLemmas.{AreShort, shorter}
 use Rattle.departures.proofs.fastest.stretches_of.Goals as goal
 

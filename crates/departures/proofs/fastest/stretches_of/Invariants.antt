@@ -1,4 +1,4 @@
-use Rattle.std.proofs.Common.{◌-◌, ◌^◌}
+use Rattle.plan_base.proofs.Common.{◌-◌, ◌^◌}
 use Rattle.departures.proofs.FastestLemmas.{AreShort}
 use Rattle.departures.proofs.fastest.stretches_of.Given as goal
 

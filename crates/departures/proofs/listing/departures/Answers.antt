@@ -1,8 +1,6 @@
-use Rattle.std.proofs.Common.{◌+◌, ◌≤◌, ◌<◌, List, Option, sym, subst, arith}
-use Rattle.journey.specs.Best.{asked_by}
-use Rattle.departures.specs.declared.row.Row.{Row}
-use Rattle.departures.specs.inside.Listing.{next_moment}
-use Rattle.departures.specs.inside.Searching.{IsFirstRowFrom}
+use Rattle.plan_base.proofs.Common.{◌+◌, ◌≤◌, ◌<◌, List, Option, sym, subst, arith}
+use Rattle.journey.specs.{asked_by}
+use Rattle.departures.specs.{Row, inside.next_moment, inside.IsFirstRowFrom}
 use Rattle.departures.proofs.ListingLemmas.{IsListing, starts, ends, closes, goes_on}
 use Rattle.departures.proofs.listing.departures.Goals as goal
 

@@ -1,4 +1,4 @@
-use Rattle.journey.specs.Best.{asked_by}
+use Rattle.journey.specs.{asked_by}
 use Rattle.departures.proofs.ListingLemmas.{IsListing, left_of}
 use Rattle.departures.proofs.listing.departures.Given as goal
 

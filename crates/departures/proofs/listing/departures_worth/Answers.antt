@@ -1,4 +1,4 @@
-use Rattle.journey.specs.Best.{asked_by}
+use Rattle.journey.specs.{asked_by}
 use Rattle.departures.proofs.LeastLemmas.{none_worth}
 use Rattle.departures.proofs.listing.departures_worth.Goals as goal
 

@@ -1,7 +1,6 @@
-use Rattle.std.proofs.Common.{Option, subst}
-use Rattle.journey.specs.Best.{asked_by}
-use Rattle.few_boardings.specs.declared.boardings.Found.{Found}
-use Rattle.few_boardings.specs.Rounds.{IsLeastBelow}
+use Rattle.plan_base.proofs.Common.{Option, subst}
+use Rattle.journey.specs.{asked_by}
+use Rattle.few_boardings.specs.{Found, IsLeastBelow}
 use Rattle.departures.proofs.MovedLemmas.{without_found, without_none}
 use Rattle.departures.proofs.listing.without_ride.Goals as goal
 

@@ -1,5 +1,5 @@
-use Rattle.std.proofs.Common.{◌≡◌, ◌++◌, drop}
-use Rattle.departures.specs.inside.SettingOff.{unwaited}
+use Rattle.plan_base.proofs.Common.{◌≡◌, ◌++◌, drop}
+use Rattle.departures.specs.inside.{unwaited}
 use Rattle.departures.proofs.SettingOffLemmas.{rest_of}
 use Rattle.departures.proofs.setting_off.unwaited.Given as goal
 

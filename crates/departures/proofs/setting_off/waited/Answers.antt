@@ -1,7 +1,6 @@
-use Rattle.std.proofs.Common.{◌+◌, ◌∙◌, sym, subst, arith}
-use Rattle.std.proofs.lemmas.List.{get_or_default}
-use Rattle.service_days.specs.Days.{AreDays, AreRisingDays}
-use Rattle.journey.specs.Rides.{KeepsRules}
+use Rattle.plan_base.proofs.Common.{◌+◌, ◌∙◌, sym, subst, arith, get_or_default}
+use Rattle.service_days.specs.{AreDays, AreRisingDays}
+use Rattle.journey.specs.{KeepsRules}
 use Rattle.departures.proofs.SettingOffLemmas.{IsWaiting, waiting_more, waited_at_ride, waited_at_none, waited_at_end}
 use Rattle.departures.proofs.setting_off.waited.Goals as goal
 

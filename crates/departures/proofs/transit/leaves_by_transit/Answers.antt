@@ -1,4 +1,4 @@
-use Rattle.std.proofs.Common.{arith}
+use Rattle.plan_base.proofs.Common.{arith}
 use Rattle.departures.proofs.TransitLemmas.{none_set}
 use Rattle.departures.proofs.transit.leaves_by_transit.Goals as goal
 

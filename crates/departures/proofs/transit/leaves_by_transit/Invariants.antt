@@ -1,6 +1,5 @@
-use Rattle.std.proofs.Common.{◌≡◌, ℕ, ◌<◌}
-use Rattle.std.specs.Prelude.{bit_and}
-use Rattle.search_laws.specs.Letters.{transit_letters}
+use Rattle.plan_base.proofs.Common.{◌≡◌, ℕ, ◌<◌, bit_and}
+use Rattle.search_laws.specs.{transit_letters}
 use Rattle.departures.proofs.transit.leaves_by_transit.Given as goal
 
 abbrev pub invariant-loop-i : goal.invariant-loop-i

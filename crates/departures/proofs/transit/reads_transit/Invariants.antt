@@ -1,5 +1,5 @@
-use Rattle.std.proofs.Common.{ℕ, ◌<◌}
-use Rattle.departures.specs.inside.Transit.{NoneByTransit}
+use Rattle.plan_base.proofs.Common.{ℕ, ◌<◌}
+use Rattle.departures.specs.inside.{NoneByTransit}
 use Rattle.departures.proofs.transit.reads_transit.Given as goal
 
 abbrev pub invariant-loop-q : goal.invariant-loop-q

@@ -1,6 +1,5 @@
-use Rattle.std.proofs.Common.{◌∙◌, inl, inr, ap}
-use Rattle.std.proofs.lemmas.Result.{IfOk-weaker}
-use Rattle.journey.specs.Texts.{block_text}
+use Rattle.plan_base.proofs.Common.{◌∙◌, inl, inr, ap, IfOk-weaker}
+use Rattle.journey.specs.{block_text}
 use Rattle.few_boardings.proofs.blocks.few_block.Goals as goal
 
 pub returns-in-Err : goal.returns-in-Err

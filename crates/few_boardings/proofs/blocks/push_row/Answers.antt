@@ -1,5 +1,4 @@
-use Rattle.std.proofs.Common.{◌++◌, ◌∙◌, ap}
-use Rattle.std.specs.Fmt.{decimal}
+use Rattle.plan_base.proofs.Common.{◌++◌, ◌∙◌, ap, decimal}
 use Rattle.few_boardings.proofs.TextLemmas.{row_told}
 use Rattle.few_boardings.proofs.blocks.push_row.Goals as goal
 

@@ -1,6 +1,6 @@
-use Rattle.std.proofs.Common.{take}
-use Rattle.journey.specs.Blocks.{AddsText}
-use Rattle.few_boardings.specs.Blocks.{AreBoardingsTold}
+use Rattle.plan_base.proofs.Common.{take}
+use Rattle.journey.specs.{AddsText}
+use Rattle.few_boardings.specs.{AreBoardingsTold}
 use Rattle.few_boardings.proofs.blocks.push_rows.Given as goal
 
 abbrev pub invariant-loop-row : goal.invariant-loop-row

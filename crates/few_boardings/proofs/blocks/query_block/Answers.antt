@@ -1,6 +1,5 @@
-use Rattle.std.proofs.Common.{inr}
-use Rattle.std.proofs.lemmas.Result.{IfOk-weaker}
-use Rattle.journey.specs.Best.{asked_by}
+use Rattle.plan_base.proofs.Common.{inr, IfOk-weaker}
+use Rattle.journey.specs.{asked_by}
 use Rattle.few_boardings.proofs.blocks.query_block.Goals as goal
 
 pub returns : goal.returns

@@ -1,8 +1,6 @@
-use Rattle.std.proofs.Common.{Option, List, sym, subst}
-use Rattle.journey.specs.Best.{asked_by}
-use Rattle.few_boardings.specs.declared.boardings.FewRow.{FewRow}
-use Rattle.few_boardings.specs.declared.boardings.Found.{Found}
-use Rattle.few_boardings.specs.Rounds.{AreRowsSoFar}
+use Rattle.plan_base.proofs.Common.{Option, List, sym, subst}
+use Rattle.journey.specs.{asked_by}
+use Rattle.few_boardings.specs.{FewRow, Found, AreRowsSoFar}
 use Rattle.few_boardings.proofs.RoundLemmas.{starts, goes_on_by, are_rows, none_or_some}
 use Rattle.few_boardings.proofs.boardings.few.Goals as goal
 

@@ -1,5 +1,5 @@
-use Rattle.few_boardings.specs.Rounds.{AreRowsSoFar, rides_left}
-use Rattle.journey.specs.Best.{asked_by}
+use Rattle.few_boardings.specs.{AreRowsSoFar, rides_left}
+use Rattle.journey.specs.{asked_by}
 use Rattle.few_boardings.proofs.boardings.few.Given as goal
 
 abbrev pub invariant-loop-best : goal.invariant-loop-best

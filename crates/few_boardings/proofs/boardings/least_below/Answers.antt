@@ -1,14 +1,10 @@
-use Rattle.std.proofs.Common.{◌+◌, ◌-◌, ◌≡◌, ◌≤◌, subst, arith}
-use Rattle.std.proofs.lemmas.Result.{IfOk-weaker}
-use Rattle.automaton.specs.Collapsed.{collapsed}
-use Rattle.automaton.specs.Meanings.{position_meaning}
-use Rattle.mode_expression.specs.Form.{form_of}
-use Rattle.journey.specs.Best.{asked_by}
+use Rattle.plan_base.proofs.Common.{◌+◌, ◌-◌, ◌≡◌, ◌≤◌, subst, arith, IfOk-weaker}
+use Rattle.automaton.specs.{collapsed, position_meaning}
+use Rattle.mode_expression.specs.{form_of}
+use Rattle.journey.specs.{asked_by}
 use Rattle.unpack.proofs.TakenLemmas.{walk_is_plain}
 use Rattle.kept_automata.proofs.TextLemmas.{query_spells}
-use Rattle.few_boardings.specs.declared.counted.Side.TheVariants.{AtMost}
-use Rattle.few_boardings.specs.Counted.{counted}
-use Rattle.few_boardings.specs.Rounds.{IsLeastBelow}
+use Rattle.few_boardings.specs.{AtMost, counted, IsLeastBelow}
 use Rattle.few_boardings.proofs.FoundLemmas.{counting_of, found_below}
 use Rattle.few_boardings.proofs.boardings.least_below.Goals as goal
 

@@ -1,5 +1,4 @@
-use Rattle.std.proofs.Common.{arith, lit<, ◌^◌, ◌≤◌}
-use Rattle.std.proofs.Math.Nat.{pow-le-pow_right}
+use Rattle.plan_base.proofs.Common.{arith, lit<, ◌^◌, ◌≤◌, pow-le-pow_right}
 use Rattle.geo_length.proofs.degrees.power_of_ten.Goals as goal
 
 pub returns-clause-within : goal.returns-clause-within

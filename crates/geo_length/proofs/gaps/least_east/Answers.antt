@@ -1,8 +1,6 @@
-use Rattle.std.proofs.Common.{◌≤◌}
-use Rattle.geo_length.proofs.LengthLaws.{eastward-ge}
-use Rattle.geo_length.proofs.WidthLaws.{width_at-falls}
-use Rattle.geo_length.specs.Lengths.{mean_degree}
-use Rattle.geo_length.specs.Widths.{width_at}
+use Rattle.plan_base.proofs.Common.{◌≤◌}
+use Rattle.geo_length.proofs.{LengthLaws.eastward-ge, WidthLaws.width_at-falls}
+use Rattle.geo_length.specs.{mean_degree, width_at}
 use Rattle.geo_length.proofs.gaps.least_east.Goals as goal
 
 pub returns : goal.returns

@@ -1,4 +1,4 @@
-use Rattle.std.proofs.Common.{arith}
+use Rattle.plan_base.proofs.Common.{arith}
 use Rattle.geo_length.proofs.LengthLaws.{northward-le, eastward-le}
 use Rattle.geo_length.proofs.gaps.least_mm.Goals as goal
 

@@ -1,8 +1,6 @@
-use Rattle.std.proofs.Common.{arith, ◌⊎◌, inl, inr, ◌<ℤ◌}
-use Rattle.std.proofs.lemmas.Int.{ints}
-use Rattle.geo_length.proofs.LengthLaws.{around_past}
+use Rattle.plan_base.proofs.Common.{arith, ◌⊎◌, inl, inr, ◌<ℤ◌, ints}
+use Rattle.geo_length.proofs.{LengthLaws.around_past, gaps.longitude_gap.Goals.else-bounds-place-via-then-bounds-place+else-place-bounds, gaps.longitude_gap.Goals.else-bounds-place-via-else-bounds-place}
 use Rattle.geo_length.proofs.gaps.longitude_gap.Goals as goal
-use Rattle.geo_length.proofs.gaps.longitude_gap.Goals.{else-bounds-place-via-then-bounds-place+else-place-bounds, else-bounds-place-via-else-bounds-place}
 
 past : (c : goal.After-min) → (c.args.place.lon <ℤ c.args.bounds.now.low.lon) ⊎ (c.args.bounds.now.high.lon <ℤ c.args.place.lon)
 past c =

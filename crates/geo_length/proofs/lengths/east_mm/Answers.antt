@@ -1,5 +1,4 @@
-use Rattle.std.proofs.Common.{◌*◌, ◌≤◌, arith}
-use Rattle.std.proofs.Math.Nat.{mul-le-mul}
+use Rattle.plan_base.proofs.Common.{◌*◌, ◌≤◌, arith, mul-le-mul}
 use Rattle.geo_length.proofs.lengths.east_mm.Goals as goal
 
 pub overflow_mul-result-2 : goal.overflow_mul-result-2

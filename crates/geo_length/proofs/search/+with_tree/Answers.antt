@@ -1,11 +1,6 @@
-use Rattle.std.proofs.Common.{◌∙◌, ap, sym, subst}
-use Rattle.std.specs.Prelude.{filter}
-use Rattle.std.proofs.lemmas.List.Elements.{All-weaker, filter-append}
-use Rattle.geo_length.specs.Boxes.{IsInBounds}
-use Rattle.geo_length.specs.Nearest.{ComesLater, ExtendsNearest}
-use Rattle.geo_length.specs.Trees.{bounds_of}
-use Rattle.geo_length.proofs.NearestLaws.{passing_later, takes_append, takes_behind}
-use Rattle.geo_length.proofs.TreeLaws.{all_inside}
+use Rattle.plan_base.proofs.Common.{◌∙◌, ap, sym, subst, filter, All-weaker, filter-append}
+use Rattle.geo_length.specs.{IsInBounds, ComesLater, ExtendsNearest, bounds_of}
+use Rattle.geo_length.proofs.{NearestLaws.passing_later, NearestLaws.takes_append, NearestLaws.takes_behind, TreeLaws.all_inside}
 use Rattle.geo_length.proofs.search.+with_tree.Goals as goal
 
 pub returns-then-is_passed_over : goal.returns-then-is_passed_over

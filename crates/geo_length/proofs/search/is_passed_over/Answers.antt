@@ -1,5 +1,4 @@
-use Rattle.std.proofs.Common.{arith}
-use Rattle.std.proofs.lemmas.Int.{ints}
+use Rattle.plan_base.proofs.Common.{arith, ints}
 use Rattle.geo_length.proofs.search.is_passed_over.Goals as goal
 
 pub returns-then-mm-least-2 : goal.returns-then-mm-least-2

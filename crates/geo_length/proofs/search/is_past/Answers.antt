@@ -1,5 +1,4 @@
-use Rattle.std.proofs.Common.{arith}
-use Rattle.std.proofs.lemmas.Bool.Decides.{nat_tests}
+use Rattle.plan_base.proofs.Common.{arith, nat_tests}
 use Rattle.geo_length.proofs.LengthLaws.{northward-le, eastward-le}
 use Rattle.geo_length.proofs.search.is_past.Goals as goal
 

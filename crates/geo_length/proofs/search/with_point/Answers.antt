@@ -1,6 +1,5 @@
-use Rattle.std.proofs.Common.{◌∙◌, [], ◌∷◌, sym}
-use Rattle.std.proofs.lemmas.List.Elements.{All-cons, All-nil}
-use Rattle.geo_length.specs.Nearest.{ComesLater}
+use Rattle.plan_base.proofs.Common.{◌∙◌, [], ◌∷◌, sym, All-cons, All-nil}
+use Rattle.geo_length.specs.{ComesLater}
 use Rattle.geo_length.proofs.NearestLaws.{far_later, passing_later, takes_none, takes_point}
 use Rattle.geo_length.proofs.search.with_point.Goals as goal
 

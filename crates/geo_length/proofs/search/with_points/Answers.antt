@@ -1,8 +1,5 @@
-use Rattle.std.proofs.Common.{◌<◌, ◌∷◌, ◌++◌, ◌∙◌, [], length, take, ap, sym, subst, arith}
-use Rattle.std.specs.Prelude.{filter, List}
-use Rattle.std.proofs.lemmas.List.{take_more}
-use Rattle.std.proofs.lemmas.List.Elements.{filter-append}
-use Rattle.geo_length.specs.Nearest.{ExtendsNearest, Point}
+use Rattle.plan_base.proofs.Common.{◌<◌, ◌∷◌, ◌∙◌, [], length, take, ap, sym, subst, arith, filter, List, take_more, filter-append}
+use Rattle.geo_length.specs.{ExtendsNearest, Point}
 use Rattle.geo_length.proofs.NearestLaws.{takes_append}
 use Rattle.geo_length.proofs.search.with_points.Goals as goal
 

@@ -1,6 +1,5 @@
-use Rattle.std.proofs.Common.{take}
-use Rattle.std.specs.Prelude.{filter}
-use Rattle.geo_length.specs.Nearest.{ExtendsNearest}
+use Rattle.plan_base.proofs.Common.{take, filter}
+use Rattle.geo_length.specs.{ExtendsNearest}
 use Rattle.geo_length.proofs.search.with_points.Given as goal
 
 abbrev pub invariant-loop-point : goal.invariant-loop-point

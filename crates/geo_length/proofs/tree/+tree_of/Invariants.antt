@@ -1,4 +1,4 @@
-use Rattle.std.proofs.Common.{length}
+use Rattle.plan_base.proofs.Common.{length}
 use Rattle.geo_length.proofs.tree.+tree_of.Given as goal
 
 abbrev pub decreases-tree_of : goal.decreases-tree_of

@@ -1,4 +1,4 @@
-use Rattle.geo_length.specs.Widths.{width_at}
+use Rattle.geo_length.specs.{width_at}
 use Rattle.geo_length.proofs.WidthLaws.{width_at-le}
 use Rattle.geo_length.proofs.widths.width.Goals as goal
 

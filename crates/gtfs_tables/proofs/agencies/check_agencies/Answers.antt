@@ -1,4 +1,4 @@
-use Rattle.std.proofs.Common.{◌∙◌, ap, Ok}
+use Rattle.plan_base.proofs.Common.{◌∙◌, ap, Ok}
 use Rattle.gtfs_tables.proofs.AgencyLemmas.{without_record}
 use Rattle.gtfs_tables.proofs.agencies.check_agencies.Goals as goal
 

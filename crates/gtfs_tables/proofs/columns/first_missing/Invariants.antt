@@ -1,6 +1,6 @@
-use Rattle.std.proofs.Common.{◌≡◌, drop}
+use Rattle.plan_base.proofs.Common.{◌≡◌, drop}
 use Rattle.csv.specs.Records.{fields_of}
-use Rattle.gtfs_tables.specs.Columns.{first_missing}
+use Rattle.gtfs_tables.specs.{first_missing}
 use Rattle.gtfs_tables.proofs.columns.first_missing.Given as goal
 
 abbrev pub invariant-loop-column : goal.invariant-loop-column

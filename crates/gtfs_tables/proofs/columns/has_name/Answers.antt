@@ -1,5 +1,4 @@
-use Rattle.std.proofs.Common.{◌∙◌, sym, ap}
-use Rattle.std.specs.Prelude.{bytes_eq}
+use Rattle.plan_base.proofs.Common.{◌∙◌, sym, ap, bytes_eq}
 use Rattle.csv.specs.Records.{fields_of}
 use Rattle.csv.proofs.RecordFacts.{field-get, field-there}
 use Rattle.gtfs_tables.proofs.columns.has_name.Goals as goal

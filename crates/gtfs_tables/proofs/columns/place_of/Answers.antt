@@ -1,7 +1,6 @@
-use Rattle.std.proofs.Common.{◌∙◌, sym, ap, [], arith}
-use Rattle.std.specs.Prelude.{bytes_eq, position}
+use Rattle.plan_base.proofs.Common.{◌∙◌, sym, ap, [], arith, bytes_eq, position}
 use Rattle.csv.specs.Records.{fields_of}
-use Rattle.gtfs_tables.specs.Columns.{place_of_column}
+use Rattle.gtfs_tables.specs.{place_of_column}
 use Rattle.gtfs_tables.proofs.ColumnLemmas.{first_place, no_place}
 use Rattle.gtfs_tables.proofs.columns.place_of.Goals as goal
 

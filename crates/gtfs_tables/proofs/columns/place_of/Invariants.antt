@@ -1,5 +1,4 @@
-use Rattle.std.proofs.Common.{◌≡◌, ℕ, ◌<◌, [], false, get_or}
-use Rattle.std.specs.Prelude.{bytes_eq}
+use Rattle.plan_base.proofs.Common.{◌≡◌, ℕ, ◌<◌, [], false, get_or, bytes_eq}
 use Rattle.csv.specs.Records.{fields_of}
 use Rattle.gtfs_tables.proofs.columns.place_of.Given as goal
 

@@ -1,7 +1,5 @@
-use Rattle.std.proofs.Common.{[], ap}
-use Rattle.std.specs.Prelude.{option_map}
-use Rattle.std.proofs.lemmas.Result.{err_from_is_err_and}
-use Rattle.gtfs_tables.specs.declared.faults.FeedFault.TheVariants.{MissingFile}
+use Rattle.plan_base.proofs.Common.{[], ap, option_map, err_from_is_err_and}
+use Rattle.gtfs_tables.specs.{MissingFile}
 use Rattle.gtfs_tables.proofs.FeedLemmas.{faulty_agencies, faulty_dates, faulty_routes, faulty_services, faulty_stops}
 use Rattle.gtfs_tables.proofs.feeds.read_basis.Goals as goal
 

@@ -1,6 +1,5 @@
-use Rattle.std.proofs.Common.{sym, ap, ◌∙◌}
-use Rattle.std.specs.Prelude.{option_map}
-use Rattle.gtfs_tables.specs.declared.faults.FeedFault.TheVariants.{MissingFile}
+use Rattle.plan_base.proofs.Common.{sym, ap, ◌∙◌, option_map}
+use Rattle.gtfs_tables.specs.{MissingFile}
 use Rattle.gtfs_tables.proofs.FeedLemmas.{absent_file}
 use Rattle.gtfs_tables.proofs.feeds.read_feed.Goals as goal
 

@@ -1,14 +1,6 @@
-use Rattle.std.proofs.Common.{ℕ, [], length, sym, ap, subst, ◌∙◌, Ok}
-use Rattle.std.specs.Prelude.{option_map}
-use Rattle.std.specs.List.{AllByRecursion}
-use Rattle.std.proofs.lemmas.List.{length-map}
-use Rattle.gtfs_tables.specs.declared.faults.FeedFault.TheVariants.{MissingFile}
-use Rattle.gtfs_tables.specs.declared.routes.RouteRow.{RouteRow}
-use Rattle.gtfs_tables.specs.declared.stops.StopRow.{StopRow}
-use Rattle.gtfs_tables.specs.declared.trips.TripRow.{TripRow}
-use Rattle.gtfs_tables.specs.Sound.{IsCall, IsFeed, IsFrequency, IsTrip}
-use Rattle.gtfs_tables.proofs.FeedLemmas.{all_read}
-use Rattle.gtfs_tables.proofs.FeedSound.{calls_keep, dates_keep, frequencies_keep, route_ids, routes_keep, sequences, service_ids, services_keep, stop_ids, stops_keep, trip_ids, trips_keep}
+use Rattle.plan_base.proofs.Common.{ℕ, [], length, sym, ap, subst, ◌∙◌, Ok, option_map, AllByRecursion, length-map}
+use Rattle.gtfs_tables.specs.{MissingFile, RouteRow, StopRow, TripRow, IsCall, IsFeed, IsFrequency, IsTrip}
+use Rattle.gtfs_tables.proofs.{FeedLemmas.all_read, FeedSound.calls_keep, FeedSound.dates_keep, FeedSound.frequencies_keep, FeedSound.route_ids, FeedSound.routes_keep, FeedSound.sequences, FeedSound.service_ids, FeedSound.services_keep, FeedSound.stop_ids, FeedSound.stops_keep, FeedSound.trip_ids, FeedSound.trips_keep}
 use Rattle.gtfs_tables.proofs.feeds.read_present.Goals as goal
 
 pub returns-clause-feed : goal.returns-clause-feed

@@ -1,7 +1,5 @@
-use Rattle.std.proofs.Common.{[], ap}
-use Rattle.std.specs.Prelude.{option_map}
-use Rattle.std.proofs.lemmas.Result.{err_from_is_err_and}
-use Rattle.gtfs_tables.specs.declared.faults.FeedFault.TheVariants.{MissingFile}
+use Rattle.plan_base.proofs.Common.{[], ap, option_map, err_from_is_err_and}
+use Rattle.gtfs_tables.specs.{MissingFile}
 use Rattle.gtfs_tables.proofs.FeedLemmas.{faulty_calls, faulty_frequencies, faulty_trips}
 use Rattle.gtfs_tables.proofs.feeds.read_runs.Goals as goal
 

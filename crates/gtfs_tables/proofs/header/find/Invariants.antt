@@ -1,5 +1,5 @@
 use Rattle.csv.specs.Records.{fields_of}
-use Rattle.gtfs_tables.specs.inside.Finding.{AreFound}
+use Rattle.gtfs_tables.specs.inside.{AreFound}
 use Rattle.gtfs_tables.proofs.header.find.Given as goal
 
 abbrev pub invariant-loop-column : goal.invariant-loop-column

@@ -1,4 +1,4 @@
-use Rattle.std.proofs.Common.{map, sym, ap, ◌∙◌}
+use Rattle.plan_base.proofs.Common.{map, sym, ap, ◌∙◌}
 use Rattle.gtfs_tables.proofs.ListLemmas.{filter_map-Some}
 use Rattle.gtfs_tables.proofs.routes.read_routes.Goals as goal
 

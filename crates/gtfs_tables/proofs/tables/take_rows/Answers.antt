@@ -1,7 +1,6 @@
-use Rattle.std.proofs.Common.{◌∙◌, subst}
-use Rattle.std.proofs.lemmas.Result.{err_from_is_err_and}
+use Rattle.plan_base.proofs.Common.{◌∙◌, subst, err_from_is_err_and}
 use Rattle.csv.specs.Records.{fields_of}
-use Rattle.gtfs_tables.specs.inside.Holding.{TakesRow}
+use Rattle.gtfs_tables.specs.inside.{TakesRow}
 use Rattle.gtfs_tables.proofs.TableLemmas.{goes_on, halts}
 use Rattle.gtfs_tables.proofs.tables.take_rows.Goals as goal
 

@@ -1,5 +1,5 @@
-use Rattle.std.proofs.Common.{◌≡◌, length}
-use Rattle.gtfs_tables.specs.inside.Holding.{IsOnTheWay}
+use Rattle.plan_base.proofs.Common.{◌≡◌, length}
+use Rattle.gtfs_tables.specs.inside.{IsOnTheWay}
 use Rattle.gtfs_tables.proofs.tables.take_rows.Given as goal
 
 abbrev pub invariant-loop-fields : goal.invariant-loop-fields

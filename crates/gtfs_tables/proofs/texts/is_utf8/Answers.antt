@@ -1,8 +1,6 @@
-use Rattle.std.proofs.Common.{◌≡◌, ℕ, List, sym, ◌∙◌, Result, Ok, Err, inl, inr}
-use Rattle.std.specs.Prelude.{IsUtf8, MatchResult}
-use Rattle.std.specs.Result.{is_ok}
+use Rattle.plan_base.proofs.Common.{◌≡◌, ℕ, List, sym, ◌∙◌, Result, Ok, Err, inl, inr, MatchResult, cases_Bool}
+use Rattle.std.proofs.Common.{IsUtf8, is_ok}
 use Rattle.std.specs.Str.{is_utf8}
-use Rattle.std.proofs.lemmas.Bool.{cases_Bool}
 use Rattle.std.proofs.lemmas.Str.{IsUtf8-from_is_utf8, is_utf8-from_IsUtf8}
 use Rattle.gtfs_tables.proofs.texts.is_utf8.Goals as goal
 

@@ -1,4 +1,4 @@
-use Rattle.std.proofs.Common.{◌≡◌, ◌≤◌, length}
+use Rattle.plan_base.proofs.Common.{◌≡◌, ◌≤◌, length}
 use Rattle.hierarchy.proofs.HeightLemmas.{AreHeightsFrom}
 use Rattle.hierarchy.proofs.heights.heights.Given as goal
 

@@ -1,9 +1,5 @@
-use Rattle.std.proofs.Common.{◌<◌, length, subst, arith, None}
-use Rattle.std.specs.Prelude.{All}
-use Rattle.std.proofs.lemmas.List.{take_all}
-use Rattle.std.proofs.lemmas.List.Elements.{All-more, All-weaker}
-use Rattle.hierarchy.specs.declared.entry.Entry.{Entry}
-use Rattle.hierarchy.specs.Indexes.{AreEndsBelow}
+use Rattle.plan_base.proofs.Common.{◌<◌, length, subst, arith, None, All, take_all, All-more, All-weaker}
+use Rattle.hierarchy.specs.{Entry, AreEndsBelow}
 use Rattle.hierarchy.proofs.heights.past_entries.Goals as goal
 
 abbrev nowhere : Entry

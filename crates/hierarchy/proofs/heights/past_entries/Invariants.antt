@@ -1,6 +1,5 @@
-use Rattle.std.proofs.Common.{◌≤◌, ◌^◌, take}
-use Rattle.std.specs.Prelude.{All}
-use Rattle.hierarchy.specs.Indexes.{AreEndsBelow}
+use Rattle.plan_base.proofs.Common.{◌≤◌, ◌^◌, take, All}
+use Rattle.hierarchy.specs.{AreEndsBelow}
 use Rattle.hierarchy.proofs.heights.past_entries.Given as goal
 
 abbrev pub invariant-loop-entry : goal.invariant-loop-entry

@@ -1,5 +1,4 @@
-use Rattle.std.proofs.Common.{◌<◌, ◌≤◌, ◌^◌, take}
-use Rattle.std.specs.Prelude.{All}
+use Rattle.plan_base.proofs.Common.{◌<◌, ◌≤◌, ◌^◌, take, All}
 use Rattle.hierarchy.proofs.heights.past_order.Given as goal
 
 abbrev pub invariant-loop-v : goal.invariant-loop-v

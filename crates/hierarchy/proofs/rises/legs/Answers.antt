@@ -1,11 +1,7 @@
-use Rattle.std.proofs.Common.{◌≡◌, ◌++◌, ◌∷◌, [], ◌∙◌, ◌*◌, ◌&&◌, cond, true, false, ap, arith, get_or, map, sym, take}
-use Rattle.std.specs.List.{list_all}
-use Rattle.std.proofs.lemmas.Bool.{le-ltb, lt-ltb}
-use Rattle.std.proofs.lemmas.List.{get_or-map, length-map, map-append, take_more}
+use Rattle.plan_base.proofs.Common.{◌≡◌, ◌++◌, ◌∷◌, [], ◌∙◌, ◌*◌, ◌&&◌, cond, true, false, ap, arith, get_or, map, sym, take, list_all, le-ltb, lt-ltb, get_or-map, length-map, map-append, take_more}
 use Rattle.std.proofs.lemmas.List.Folds.{list_all_at, list_all_more}
-use Rattle.search_laws.specs.declared.graph.Leg.{Leg}
-use Rattle.hierarchy.specs.Lookups.{entry_at}
-use Rattle.hierarchy.specs.Rises.{Rise, is_short, leg_of, rise_at, rises_at}
+use Rattle.search_laws.specs.{Leg}
+use Rattle.hierarchy.specs.{entry_at, Rise, is_short, leg_of, rise_at, rises_at}
 use Rattle.hierarchy.proofs.rises.legs.Goals as goal
 
 pub returns-in_default : goal.returns-in_default

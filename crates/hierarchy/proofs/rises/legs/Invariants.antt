@@ -1,6 +1,5 @@
-use Rattle.std.proofs.Common.{◌≡◌, map, take, true}
-use Rattle.std.specs.List.{list_all}
-use Rattle.hierarchy.specs.Rises.{is_short, leg_of, rises_at}
+use Rattle.plan_base.proofs.Common.{◌≡◌, map, take, true, list_all}
+use Rattle.hierarchy.specs.{is_short, leg_of, rises_at}
 use Rattle.hierarchy.proofs.rises.legs.Given as goal
 
 abbrev pub invariant-loop-place : goal.invariant-loop-place

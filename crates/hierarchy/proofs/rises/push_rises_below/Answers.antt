@@ -1,12 +1,8 @@
-use Rattle.std.proofs.Common.{◌≡◌, ◌≤◌, ◌++◌, ◌∷◌, [], ◌∙◌, cond, true, false, ap, arith, sym, subst, append-nil}
-use Rattle.std.proofs.lemmas.List.{get_or_default}
-use Rattle.hierarchy.specs.declared.entry.Entry.{Entry}
-use Rattle.hierarchy.specs.Lookups.{entry_at, from_of, no_entry, places_before}
-use Rattle.hierarchy.specs.Rises.{is_rise}
-use Rattle.hierarchy.proofs.OffsetLemmas.{below_stands_before, first_place}
-use Rattle.hierarchy.proofs.PlaceLemmas.{places_more}
+use Rattle.plan_base.proofs.Common.{◌≡◌, ◌≤◌, ◌++◌, ◌∷◌, [], ◌∙◌, cond, true, false, ap, arith, sym, subst, append-nil, get_or_default}
+use Rattle.hierarchy.specs.{Entry, entry_at, from_of, no_entry, places_before, is_rise}
+use Rattle.mode_network.proofs.KeyLemmas.{below_stands_before, first_place}
+use Rattle.hierarchy.proofs.{PlaceLemmas.places_more, rises.push_rises_below.Goals.then-is_rise+in_ok-push, rises.push_rises_below.Goals.else-is_rise}
 use Rattle.hierarchy.proofs.rises.push_rises_below.Goals as goal
-use Rattle.hierarchy.proofs.rises.push_rises_below.Goals.{then-is_rise+in_ok-push, else-is_rise}
 
 pub loop-place-preserved : goal.loop-place-preserved
 loop-place-preserved c =

@@ -1,6 +1,6 @@
-use Rattle.std.proofs.Common.{◌≡◌, ◌≤◌, ◌-◌, length}
-use Rattle.hierarchy.specs.Lookups.{count_below, from_of, places_before}
-use Rattle.hierarchy.specs.Rises.{is_rise}
+use Rattle.plan_base.proofs.Common.{◌≡◌, ◌≤◌, ◌-◌, length}
+use Rattle.mode_network.specs.{count_below}
+use Rattle.hierarchy.specs.{from_of, places_before, is_rise}
 use Rattle.hierarchy.proofs.rises.push_rises_below.Given as goal
 
 abbrev pub invariant-loop-place : goal.invariant-loop-place

@@ -1,14 +1,8 @@
-use Rattle.std.proofs.Common.{◌≡◌, ◌<◌, ◌-◌, ◌∙◌, rules, ap, arith, length, length-append, inl, inr}
-use Rattle.std.proofs.lemmas.Bool.{cases_eq}
-use Rattle.std.proofs.lemmas.List.Elements.{All-weaker}
-use Rattle.hierarchy.specs.declared.entry.Entry.{Entry}
-use Rattle.hierarchy.specs.declared.tables.NodeRow.{NodeRow}
-use Rattle.hierarchy.specs.Indexes.{AreEndsBelow, node_row}
-use Rattle.hierarchy.specs.Lookups.{count_below, from_of, places_before}
-use Rattle.hierarchy.specs.Rises.{is_rise, rise_from, rises_in}
-use Rattle.hierarchy.proofs.OffsetLemmas.{count_all, count_most, count_rises, rows_more}
-use Rattle.hierarchy.proofs.PlaceLemmas.{places_few}
-use Rattle.hierarchy.proofs.RiseLemmas.{rises_below}
+use Rattle.plan_base.proofs.Common.{◌≡◌, ◌<◌, ◌-◌, ◌∙◌, rules, ap, arith, length, length-append, inl, inr, cases_eq, All-weaker}
+use Rattle.mode_network.specs.{count_below}
+use Rattle.hierarchy.specs.{Entry, NodeRow, AreEndsBelow, node_row, from_of, places_before, is_rise, rise_from, rises_in}
+use Rattle.mode_network.proofs.KeyLemmas.{count_all, count_most, count_rises, rows_more}
+use Rattle.hierarchy.proofs.{PlaceLemmas.places_few, RiseLemmas.rises_below}
 use Rattle.hierarchy.proofs.rises.rows.Goals as goal
 
 pub push_rises_below-requires-clause-place : goal.push_rises_below-requires-clause-place

@@ -1,9 +1,6 @@
-use Rattle.std.proofs.Common.{◌≡◌, ℕ, ◌+◌, ◌<◌, length}
-use Rattle.std.specs.Prelude.{slice_index_or}
-use Rattle.hierarchy.specs.declared.tables.NodeRow.{NodeRow}
-use Rattle.hierarchy.specs.Lookups.{count_below, from_of, places_before}
-use Rattle.hierarchy.specs.Indexes.{node_row}
-use Rattle.hierarchy.specs.Rises.{is_rise}
+use Rattle.plan_base.proofs.Common.{◌≡◌, ℕ, ◌+◌, ◌<◌, length, slice_index_or}
+use Rattle.mode_network.specs.{count_below}
+use Rattle.hierarchy.specs.{NodeRow, from_of, places_before, node_row, is_rise}
 use Rattle.hierarchy.proofs.rises.rows.Given as goal
 
 abbrev pub invariant-loop-v : goal.invariant-loop-v

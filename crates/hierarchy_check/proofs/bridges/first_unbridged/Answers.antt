@@ -1,6 +1,5 @@
-use Rattle.std.proofs.Common.{length, refl, subst}
-use Rattle.std.proofs.lemmas.Option.{slice_get_read}
-use Rattle.hierarchy.specs.Soundness.{NodeIsBridged}
+use Rattle.plan_base.proofs.Common.{length, refl, subst, slice_get_read}
+use Rattle.hierarchy.specs.{NodeIsBridged}
 use Rattle.hierarchy_check.proofs.bridges.first_unbridged.Goals as goal
 
 pub returns-in_err-at : goal.returns-in_err-at

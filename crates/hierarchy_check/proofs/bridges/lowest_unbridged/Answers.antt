@@ -1,8 +1,7 @@
-use Rattle.std.proofs.Common.{◌+◌, ◌<◌, ◌∙◌, arith, subst, sym}
-use Rattle.hierarchy.specs.Lists.{height_in}
-use Rattle.hierarchy_check.proofs.BridgeLemmas.{LowestSoFar, lowest_kept, lowest_here, lowest_of_all, bridged_at, unbridged_at}
+use Rattle.plan_base.proofs.Common.{◌+◌, ◌<◌, ◌∙◌, arith, subst, sym}
+use Rattle.hierarchy.specs.{height_in}
+use Rattle.hierarchy_check.proofs.{BridgeLemmas.LowestSoFar, BridgeLemmas.lowest_kept, BridgeLemmas.lowest_here, BridgeLemmas.lowest_of_all, BridgeLemmas.bridged_at, BridgeLemmas.unbridged_at, bridges.lowest_unbridged.Goals.then-place-lowest+then-is_some, bridges.lowest_unbridged.Goals.else-place-lowest, bridges.lowest_unbridged.Goals.else-place-lowest-via-then-place-lowest+else-is_some, bridges.lowest_unbridged.Goals.else-place-lowest-via-else-place-lowest}
 use Rattle.hierarchy_check.proofs.bridges.lowest_unbridged.Goals as goal
-use Rattle.hierarchy_check.proofs.bridges.lowest_unbridged.Goals.{then-place-lowest+then-is_some, else-place-lowest, else-place-lowest-via-then-place-lowest+else-is_some, else-place-lowest-via-else-place-lowest}
 
 pub loop-x-preserved : goal.loop-x-preserved
 loop-x-preserved c =

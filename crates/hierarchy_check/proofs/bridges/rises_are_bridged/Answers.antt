@@ -1,6 +1,6 @@
-use Rattle.std.proofs.Common.{below_more, ℕ, arith, get_or}
-use Rattle.hierarchy.specs.Lookups.{entry_at}
-use Rattle.hierarchy_check.specs.inside.Light.{RiseIsBridged}
+use Rattle.plan_base.proofs.Common.{below_more, ℕ, arith, get_or}
+use Rattle.hierarchy.specs.{entry_at}
+use Rattle.hierarchy_check.specs.inside.{RiseIsBridged}
 use Rattle.hierarchy_check.proofs.BridgeLemmas.{rises_bridge}
 use Rattle.hierarchy_check.proofs.bridges.rises_are_bridged.Goals as goal
 

@@ -1,7 +1,7 @@
-use Rattle.std.proofs.Common.{get_or}
-use Rattle.search_laws.specs.Firsts.{HoldsBelow}
-use Rattle.hierarchy.specs.Lookups.{entry_at}
-use Rattle.hierarchy_check.specs.inside.Light.{RiseIsBridged}
+use Rattle.plan_base.proofs.Common.{get_or}
+use Rattle.search_laws.specs.{HoldsBelow}
+use Rattle.hierarchy.specs.{entry_at}
+use Rattle.hierarchy_check.specs.inside.{RiseIsBridged}
 use Rattle.hierarchy_check.proofs.bridges.rises_are_bridged.Given as goal
 
 abbrev pub invariant-loop-place : goal.invariant-loop-place

@@ -1,11 +1,5 @@
-use Rattle.std.proofs.Common.{◌≡◌, ◌<◌, List, ℕ, None, get_or, length, map, arith, subst, sym}
-use Rattle.std.proofs.lemmas.List.{get_or_default, get_or-map, length-map}
-use Rattle.hierarchy.specs.declared.entry.Entry.{Entry}
-use Rattle.hierarchy.specs.declared.falls.Fall.{Fall}
-use Rattle.hierarchy.specs.Lists.{HierarchyLists}
-use Rattle.hierarchy.specs.Lookups.{ArePlaces, FallsTo, falls_into, place_of_fall}
-use Rattle.hierarchy.specs.Soundness.{PairIsBridged, PairsAreBridged}
-use Rattle.hierarchy.specs.FirstBroken.{FailsFirst}
+use Rattle.plan_base.proofs.Common.{◌≡◌, ◌<◌, List, ℕ, None, get_or, length, map, arith, subst, sym, get_or_default, get_or-map, length-map}
+use Rattle.hierarchy.specs.{Entry, Fall, HierarchyLists, ArePlaces, FallsTo, falls_into, place_of_fall, PairIsBridged, PairsAreBridged, FailsFirst}
 use Rattle.hierarchy.proofs.FallLemmas.{are_falls_in}
 use Rattle.hierarchy_check.proofs.BridgeLemmas.{first_unbridged_at, more_so_far, node_bridged}
 use Rattle.hierarchy_check.proofs.bridges.unbridged_at.Goals as goal

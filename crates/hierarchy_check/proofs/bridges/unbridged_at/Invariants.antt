@@ -1,5 +1,5 @@
-use Rattle.std.proofs.Common.{map}
-use Rattle.hierarchy.specs.Lookups.{place_of_fall}
+use Rattle.plan_base.proofs.Common.{map}
+use Rattle.hierarchy.specs.{place_of_fall}
 use Rattle.hierarchy_check.proofs.BridgeLemmas.{BridgedSoFar}
 use Rattle.hierarchy_check.proofs.bridges.unbridged_at.Given as goal
 

@@ -1,11 +1,7 @@
-use Rattle.std.proofs.Common.{below_more, List, None, subst, arith}
-use Rattle.search_laws.specs.Firsts.{HoldsBelow}
-use Rattle.hierarchy.specs.FirstBroken.{FailsFirst}
-use Rattle.std.specs.List.{HoldsAt}
-use Rattle.hierarchy.specs.declared.entry.Entry.{Entry}
-use Rattle.hierarchy.specs.Soundness.{PairIsBridged}
-use Rattle.hierarchy_check.proofs.PlaceLemmas.{fails_first, holds_at}
-use Rattle.hierarchy_check.proofs.BridgeLemmas.{before_range, whole_range}
+use Rattle.plan_base.proofs.Common.{below_more, List, None, subst, arith, HoldsAt}
+use Rattle.search_laws.specs.{HoldsBelow}
+use Rattle.hierarchy.specs.{FailsFirst, Entry, PairIsBridged}
+use Rattle.hierarchy_check.proofs.{PlaceLemmas.fails_first, PlaceLemmas.holds_at, BridgeLemmas.before_range, BridgeLemmas.whole_range}
 use Rattle.hierarchy_check.proofs.bridges.unbridged_from.Goals as goal
 
 abbrev nothing : Entry

@@ -1,6 +1,6 @@
-use Rattle.std.specs.List.{HoldsAt}
-use Rattle.search_laws.specs.Firsts.{HoldsBelow}
-use Rattle.hierarchy.specs.Soundness.{PairIsBridged}
+use Rattle.plan_base.proofs.Common.{HoldsAt}
+use Rattle.search_laws.specs.{HoldsBelow}
+use Rattle.hierarchy.specs.{PairIsBridged}
 use Rattle.hierarchy_check.proofs.bridges.unbridged_from.Given as goal
 
 abbrev pub invariant-loop-by : goal.invariant-loop-by

@@ -1,9 +1,6 @@
-use Rattle.std.proofs.Common.{List, length, inl, inr, refl, sym, subst}
-use Rattle.std.specs.Prelude.{All}
-use Rattle.search_laws.specs.Firsts.{HoldsBelow}
-use Rattle.hierarchy.specs.declared.entry.Entry.{Entry}
-use Rattle.hierarchy.specs.Soundness.{MayStandAt, FitsLayer}
-use Rattle.hierarchy.specs.FirstBroken.{FailsFirst}
+use Rattle.plan_base.proofs.Common.{List, length, inl, inr, refl, sym, subst, All}
+use Rattle.search_laws.specs.{HoldsBelow}
+use Rattle.hierarchy.specs.{Entry, MayStandAt, FitsLayer, FailsFirst}
 use Rattle.hierarchy_check.proofs.checking.check_nodes.Goals as goal
 
 pub returns-in-Some-first_across_layers : goal.returns-in-Some-first_across_layers

@@ -1,4 +1,4 @@
-use Rattle.std.proofs.Common.{sym}
+use Rattle.plan_base.proofs.Common.{sym}
 use Rattle.hierarchy_check.proofs.checking.first_broken.Goals as goal
 
 pub check_ways-requires : goal.check_ways-requires

@@ -1,7 +1,6 @@
-use Rattle.std.proofs.Common.{below_more}
-use Rattle.std.specs.List.{HoldsAt}
-use Rattle.mode_network.specs.declared.nodes.Arc.{Arc}
-use Rattle.hierarchy.specs.Soundness.{IsCovered}
+use Rattle.plan_base.proofs.Common.{below_more, HoldsAt}
+use Rattle.mode_network.specs.{Arc}
+use Rattle.hierarchy.specs.{IsCovered}
 use Rattle.hierarchy_check.proofs.PlaceLemmas.{fails_first, holds_at, all_hold}
 use Rattle.hierarchy_check.proofs.entries.first_uncovered.Goals as goal
 

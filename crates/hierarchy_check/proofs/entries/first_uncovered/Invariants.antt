@@ -1,6 +1,6 @@
-use Rattle.std.specs.List.{HoldsAt}
-use Rattle.search_laws.specs.Firsts.{HoldsBelow}
-use Rattle.hierarchy.specs.Soundness.{IsCovered}
+use Rattle.plan_base.proofs.Common.{HoldsAt}
+use Rattle.search_laws.specs.{HoldsBelow}
+use Rattle.hierarchy.specs.{IsCovered}
 use Rattle.hierarchy_check.proofs.entries.first_uncovered.Given as goal
 
 abbrev pub invariant-loop-at : goal.invariant-loop-at

@@ -1,9 +1,5 @@
-use Rattle.std.proofs.Common.{below_more, List, None, subst}
-use Rattle.std.specs.Prelude.{All}
-use Rattle.hierarchy.specs.FirstBroken.{FailsFirst}
-use Rattle.std.specs.List.{HoldsAt}
-use Rattle.hierarchy.specs.declared.entry.Entry.{Entry}
-use Rattle.hierarchy.specs.Soundness.{IsMade}
+use Rattle.plan_base.proofs.Common.{below_more, List, None, subst, All, HoldsAt}
+use Rattle.hierarchy.specs.{FailsFirst, Entry, IsMade}
 use Rattle.hierarchy_check.proofs.PlaceLemmas.{fails_first, holds_at, all_hold}
 use Rattle.hierarchy_check.proofs.entries.first_unmade.Goals as goal
 

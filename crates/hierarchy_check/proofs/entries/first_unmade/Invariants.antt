@@ -1,6 +1,6 @@
-use Rattle.std.specs.List.{HoldsAt}
-use Rattle.search_laws.specs.Firsts.{HoldsBelow}
-use Rattle.hierarchy.specs.Soundness.{IsMade}
+use Rattle.plan_base.proofs.Common.{HoldsAt}
+use Rattle.search_laws.specs.{HoldsBelow}
+use Rattle.hierarchy.specs.{IsMade}
 use Rattle.hierarchy_check.proofs.entries.first_unmade.Given as goal
 
 abbrev pub invariant-loop-at : goal.invariant-loop-at

@@ -1,5 +1,4 @@
-use Rattle.std.proofs.Common.{get_or, arith}
-use Rattle.std.proofs.lemmas.List.{get_or_default}
+use Rattle.plan_base.proofs.Common.{get_or, arith, get_or_default}
 use Rattle.hierarchy_check.proofs.OrderLemmas.{misplaced, met_more, free_below}
 use Rattle.hierarchy_check.proofs.order.first_misplaced.Goals as goal
 

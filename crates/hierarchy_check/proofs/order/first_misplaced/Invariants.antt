@@ -1,4 +1,4 @@
-use Rattle.hierarchy_check.specs.inside.Meetings.{AreMet}
+use Rattle.hierarchy_check.specs.inside.{AreMet}
 use Rattle.hierarchy_check.proofs.order.first_misplaced.Given as goal
 
 abbrev pub invariant-loop-place : goal.invariant-loop-place

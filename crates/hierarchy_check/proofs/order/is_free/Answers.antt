@@ -1,4 +1,4 @@
-use Rattle.std.proofs.Common.{sym, ◌∙◌}
+use Rattle.plan_base.proofs.Common.{sym, ◌∙◌}
 use Rattle.hierarchy_check.proofs.OrderLemmas.{free_iff}
 use Rattle.hierarchy_check.proofs.order.is_free.Goals as goal
 

@@ -1,4 +1,4 @@
-use Rattle.std.proofs.Common.{sym, ◌∙◌}
+use Rattle.plan_base.proofs.Common.{sym, ◌∙◌}
 use Rattle.hierarchy_check.proofs.EntryLemmas.{step_decides}
 use Rattle.hierarchy_check.proofs.witnesses.after_step.Goals as goal
 

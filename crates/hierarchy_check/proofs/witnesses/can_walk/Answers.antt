@@ -1,5 +1,4 @@
-use Rattle.std.proofs.Common.{◌+◌, drop, get_or}
-use Rattle.std.proofs.lemmas.List.{drop_more}
+use Rattle.plan_base.proofs.Common.{◌+◌, drop, get_or, drop_more}
 use Rattle.hierarchy_check.proofs.EntryLemmas.{no_walk, walk_on, both_ways}
 use Rattle.hierarchy_check.proofs.witnesses.can_walk.Goals as goal
 

@@ -1,6 +1,5 @@
-use Rattle.std.proofs.Common.{drop}
-use Rattle.std.specs.Prelude.{◌↔◌}
-use Rattle.hierarchy_check.specs.inside.Light.{CanWalk}
+use Rattle.plan_base.proofs.Common.{drop, ◌↔◌}
+use Rattle.hierarchy_check.specs.inside.{CanWalk}
 use Rattle.hierarchy_check.proofs.witnesses.can_walk.Given as goal
 
 abbrev pub invariant-loop-y : goal.invariant-loop-y

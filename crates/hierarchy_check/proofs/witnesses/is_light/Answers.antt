@@ -1,8 +1,7 @@
-use Rattle.std.proofs.Common.{◌≡◌, ◌∷◌, ◌∙◌, ◌-◌, drop, take, get_or, ap, sym, length, arith}
-use Rattle.std.proofs.lemmas.List.{drop_more, take_rest}
-use Rattle.hierarchy.specs.Lists.{WitnessLists}
-use Rattle.hierarchy_check.proofs.EntryLemmas.{both_ways}
-use Rattle.hierarchy_check.proofs.WalkLemmas.{witness_decides}
+use Rattle.plan_base.proofs.Common.{◌≡◌, ◌∷◌, ◌∙◌, ◌-◌, drop, take, get_or, ap, sym, length, arith, drop_more}
+use Rattle.std.proofs.lemmas.List.{take_rest}
+use Rattle.hierarchy.specs.{WitnessLists}
+use Rattle.hierarchy_check.proofs.{EntryLemmas.both_ways, WalkLemmas.witness_decides}
 use Rattle.hierarchy_check.proofs.witnesses.is_light.Goals as goal
 
 pub returns-in-len1-up : goal.returns-in-len1-up

@@ -1,6 +1,5 @@
-use Rattle.std.proofs.Common.{◌≡◌, ◌∙◌, ℕ, List, ap, arith, rules, subst, sym}
-use Rattle.std.specs.Prelude.{Contains}
-use Rattle.hierarchy.specs.Lists.{WitnessLists, first_of, last_of}
+use Rattle.plan_base.proofs.Common.{◌≡◌, ◌∙◌, ℕ, List, ap, arith, rules, subst, sym, Contains}
+use Rattle.hierarchy.specs.{WitnessLists, first_of, last_of}
 use Rattle.hierarchy_check.proofs.witnesses.is_witness_at.Goals as goal
 
 pub is_light-requires : goal.is_light-requires

@@ -1,10 +1,8 @@
-use Rattle.std.proofs.Common.{refl}
-use Rattle.std.proofs.lemmas.Result.{err_from_is_err_and}
-use Rattle.std.specs.Prelude.{◌≡◌, codes}
+use Rattle.plan_base.proofs.Common.{refl, err_from_is_err_and, ◌≡◌, codes}
 use Rattle.plan_base.proofs.MoreWritten.{stays_so}
-use Rattle.plain_texts.specs.Lines.{with_feed}
-use Rattle.hierarchy.specs.Lists.{HierarchyLists}
-use Rattle.run_steps.specs.Sayings.{Saying, WritesText}
+use Rattle.plain_texts.specs.{with_feed}
+use Rattle.hierarchy.specs.{HierarchyLists}
+use Rattle.run_steps.specs.{Saying, WritesText}
 use Rattle.run_steps.proofs.Steps.{on_region, text_fails}
 use Rattle.hierarchy_commands.proofs.OutcomeLemmas.{hierarchy_fails, on_hierarchy}
 use Rattle.hierarchy_commands.proofs.checking.check.Goals as goal

@@ -1,8 +1,7 @@
-use Rattle.std.proofs.Common.{inl}
-use Rattle.std.proofs.lemmas.Result.{err_from_is_err_and}
+use Rattle.plan_base.proofs.Common.{inl, err_from_is_err_and}
 use Rattle.plan_base.proofs.MoreWritten.{stays_so}
 use Rattle.run_steps.proofs.Steps.{on_region, text_fails}
-use Rattle.hierarchy_commands.specs.Commands.{IsContraction}
+use Rattle.hierarchy_commands.specs.{IsContraction}
 use Rattle.hierarchy_commands.proofs.contracting.contract.Goals as goal
 
 pub returns-in_err-text : goal.returns-in_err-text

@@ -1,6 +1,6 @@
-use Rattle.std.proofs.Common.{subst}
+use Rattle.plan_base.proofs.Common.{subst}
 use Rattle.mode_network.specs.NetworkLists.{NetworkLists}
-use Rattle.contractor.specs.Contracted.{IsContractedTo}
+use Rattle.contractor.specs.{IsContractedTo}
 use Rattle.contractor.proofs.TripLemmas.{contracted_with_trips}
 use Rattle.hierarchy_commands.proofs.contracting.contracted.Goals as goal
 

@@ -1,6 +1,6 @@
-use Rattle.std.proofs.Common.{sym, subst}
-use Rattle.hierarchy.specs.FirstBroken.{IsFirstBroken}
-use Rattle.hierarchy_check.specs.Nodes.{HasNodes}
+use Rattle.plan_base.proofs.Common.{sym, subst}
+use Rattle.hierarchy.specs.{IsFirstBroken}
+use Rattle.hierarchy_check.specs.{HasNodes}
 use Rattle.hierarchy_commands.proofs.reading.joined.Goals as goal
 
 pub check_ways-requires : goal.check_ways-requires

@@ -1,4 +1,4 @@
-use Rattle.std.proofs.Common.{sym}
+use Rattle.plan_base.proofs.Common.{sym}
 use Rattle.hierarchy_commands.proofs.reading.sound_of.Goals as goal
 
 pub joined-requires : goal.joined-requires

@@ -1,6 +1,5 @@
-use Rattle.std.proofs.Common.{arith}
-use Rattle.hierarchy_file.proofs.CauseLaws.{gives_cause}
-use Rattle.hierarchy_file.proofs.WholeLaws.{gives_found, gives_only}
+use Rattle.plan_base.proofs.Common.{arith}
+use Rattle.hierarchy_file.proofs.{CauseLaws.gives_cause, WholeLaws.gives_found, WholeLaws.gives_only}
 use Rattle.hierarchy_file.proofs.decoding.decode.Goals as goal
 
 pub returns-clause-found : goal.returns-clause-found

@@ -1,6 +1,5 @@
-use Rattle.std.proofs.Common.{arith}
-use Rattle.hierarchy_file.proofs.CauseLaws.{gives_none}
-use Rattle.hierarchy_file.proofs.WholeLaws.{gives_found}
+use Rattle.plan_base.proofs.Common.{arith}
+use Rattle.hierarchy_file.proofs.{CauseLaws.gives_none, WholeLaws.gives_found}
 use Rattle.hierarchy_file.proofs.decoding.decode_lists.Goals as goal
 
 pub returns-clause-found : goal.returns-clause-found

@@ -1,6 +1,6 @@
-use Rattle.std.proofs.Common.{◌≡◌, Ok, refl, arith}
-use Rattle.hierarchy.specs.Lists.{HierarchyLists}
-use Rattle.hierarchy_file.specs.Reading.{hierarchy_records}
+use Rattle.plan_base.proofs.Common.{◌≡◌, Ok, refl, arith}
+use Rattle.hierarchy.specs.{HierarchyLists}
+use Rattle.hierarchy_file.specs.{hierarchy_records}
 use Rattle.hierarchy_file.proofs.WholeLaws.{rules_read}
 use Rattle.hierarchy_file.proofs.decoding.records_of.Goals as goal
 

@@ -1,5 +1,5 @@
-use Rattle.std.proofs.Common.{◌≡◌, ◌∙◌, ◌<◌, ◌^◌, ℕ, ap, length, refl, rules, subst}
-use Rattle.hierarchy_file.specs.Spelling.{HasSpelling}
+use Rattle.plan_base.proofs.Common.{◌≡◌, ◌∙◌, ◌<◌, ◌^◌, ℕ, ap, length, refl, rules, subst}
+use Rattle.hierarchy_file.specs.{HasSpelling}
 use Rattle.hierarchy_file.proofs.WholeLaws.{written}
 use Rattle.hierarchy_file.proofs.encoding.encode.Goals as goal
 

@@ -1,9 +1,6 @@
-use Rattle.std.proofs.Common.{◌++◌, ◌∙◌, ◌<◌, ◌^◌, ap, sym, take, get_or, None}
-use Rattle.std.specs.List.{flat_map}
-use Rattle.std.proofs.lemmas.List.{take_more, flat_map_more}
-use Rattle.std.proofs.lemmas.List.Elements.{All-more}
-use Rattle.hierarchy.specs.declared.entry.Entry.{Entry}
-use Rattle.hierarchy_file.specs.Spelling.{entry_text}
+use Rattle.plan_base.proofs.Common.{◌++◌, ◌∙◌, ◌<◌, ◌^◌, ap, sym, take, get_or, None, flat_map, take_more, flat_map_more, All-more}
+use Rattle.hierarchy.specs.{Entry}
+use Rattle.hierarchy_file.specs.{entry_text}
 use Rattle.hierarchy_file.proofs.encoding.push_entries.Goals as goal
 
 nothing : Entry

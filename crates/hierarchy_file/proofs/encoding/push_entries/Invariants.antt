@@ -1,8 +1,6 @@
-use Rattle.std.proofs.Common.{◌≡◌, ◌++◌, ◌<◌, ◌^◌, take}
-use Rattle.std.specs.Prelude.{All}
-use Rattle.std.specs.List.{flat_map}
-use Rattle.hierarchy.specs.declared.entry.Entry.{Entry}
-use Rattle.hierarchy_file.specs.Spelling.{entry_text}
+use Rattle.plan_base.proofs.Common.{◌≡◌, ◌++◌, ◌<◌, ◌^◌, take, All, flat_map}
+use Rattle.hierarchy.specs.{Entry}
+use Rattle.hierarchy_file.specs.{entry_text}
 use Rattle.hierarchy_file.proofs.encoding.push_entries.Given as goal
 
 abbrev pub invariant-loop-entry : goal.invariant-loop-entry

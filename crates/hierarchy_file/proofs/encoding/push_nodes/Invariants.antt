@@ -1,6 +1,5 @@
-use Rattle.std.proofs.Common.{◌≡◌, ◌++◌, take}
-use Rattle.std.specs.List.{flat_map}
-use Rattle.hierarchy_file.specs.Spelling.{node_in_bytes}
+use Rattle.plan_base.proofs.Common.{◌≡◌, ◌++◌, take, flat_map}
+use Rattle.hierarchy_file.specs.{node_in_bytes}
 use Rattle.hierarchy_file.proofs.encoding.push_nodes.Given as goal
 
 abbrev pub invariant-loop-node : goal.invariant-loop-node

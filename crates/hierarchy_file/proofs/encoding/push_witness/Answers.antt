@@ -1,8 +1,6 @@
-use Rattle.std.proofs.Common.{◌≡◌, ℕ, ◌∙◌, ◌++◌, List, length, ap, subst, append_assoc}
-use Rattle.std.specs.List.{flat_map}
-use Rattle.std.specs.Int.{w64, to_be_bytes}
-use Rattle.hierarchy.specs.Lists.{WitnessLists}
-use Rattle.hierarchy_file.specs.Spelling.{node_in_bytes, witness_text}
+use Rattle.plan_base.proofs.Common.{◌≡◌, ℕ, ◌∙◌, ◌++◌, List, length, ap, subst, append_assoc, flat_map, w64, to_be_bytes}
+use Rattle.hierarchy.specs.{WitnessLists}
+use Rattle.hierarchy_file.specs.{node_in_bytes, witness_text}
 use Rattle.hierarchy_file.proofs.encoding.push_witness.Goals as goal
 
 joined : (out n1 n2 n3 a b c : List ℕ) → n1 ≡ out ++ a → n2 ≡ n1 ++ b → n3 ≡ n2 ++ c → n3 ≡ out ++ ((a ++ b) ++ c)

@@ -1,9 +1,6 @@
-use Rattle.std.proofs.Common.{◌≡◌, ◌++◌, ◌∷◌, [], ◌∙◌, ◌<◌, ◌^◌, ◌+◌, length, ap, arith, subst, sym, take}
-use Rattle.std.specs.List.{flat_map}
-use Rattle.std.proofs.lemmas.List.{take_more, flat_map_more}
-use Rattle.std.proofs.lemmas.List.Elements.{All-more}
-use Rattle.hierarchy.specs.Lists.{WitnessLists}
-use Rattle.hierarchy_file.specs.Spelling.{witness_text}
+use Rattle.plan_base.proofs.Common.{◌≡◌, ◌++◌, ◌∷◌, [], ◌∙◌, ◌<◌, ◌^◌, ◌+◌, length, ap, arith, subst, sym, take, flat_map, take_more, flat_map_more, All-more}
+use Rattle.hierarchy.specs.{WitnessLists}
+use Rattle.hierarchy_file.specs.{witness_text}
 use Rattle.hierarchy_file.proofs.encoding.push_witnesses.Goals as goal
 
 pub loop-place-preserved : goal.loop-place-preserved

@@ -1,8 +1,6 @@
-use Rattle.std.proofs.Common.{◌≡◌, ◌++◌, ◌<◌, ◌^◌, length, take}
-use Rattle.std.specs.Prelude.{All}
-use Rattle.std.specs.List.{flat_map}
-use Rattle.hierarchy.specs.Lists.{WitnessLists}
-use Rattle.hierarchy_file.specs.Spelling.{witness_text}
+use Rattle.plan_base.proofs.Common.{◌≡◌, ◌++◌, ◌<◌, ◌^◌, length, take, All, flat_map}
+use Rattle.hierarchy.specs.{WitnessLists}
+use Rattle.hierarchy_file.specs.{witness_text}
 use Rattle.hierarchy_file.proofs.encoding.push_witnesses.Given as goal
 
 abbrev pub invariant-loop-place : goal.invariant-loop-place

@@ -1,5 +1,5 @@
-use Rattle.std.proofs.Common.{◌≡◌, ℕ, ◌+◌, ◌-◌, ◌∙◌, ◌++◌, ◌∷◌, [], None, Some, ap, sym, rules}
-use Rattle.hierarchy_file.specs.Reading.{many_ascending, next_node, node_at}
+use Rattle.plan_base.proofs.Common.{◌≡◌, ℕ, ◌+◌, ◌-◌, ◌∙◌, ◌++◌, ◌∷◌, [], None, Some, ap, sym, rules}
+use Rattle.hierarchy_file.specs.{many_ascending, next_node, node_at}
 use Rattle.file_records.proofs.RowLaws.{with_front}
 use Rattle.hierarchy_file.proofs.LoopLemmas.{goes_on, halts, is_done, any_before}
 use Rattle.hierarchy_file.proofs.records.read_nodes.Goals as goal

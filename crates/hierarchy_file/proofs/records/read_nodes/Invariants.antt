@@ -1,5 +1,5 @@
-use Rattle.std.proofs.Common.{◌≡◌, ℕ, ◌-◌, None}
-use Rattle.hierarchy_file.specs.Reading.{many_ascending, next_node}
+use Rattle.plan_base.proofs.Common.{◌≡◌, ℕ, ◌-◌, None}
+use Rattle.hierarchy_file.specs.{many_ascending, next_node}
 use Rattle.file_records.proofs.RowLaws.{with_front}
 use Rattle.hierarchy_file.proofs.records.read_nodes.Given as goal
 

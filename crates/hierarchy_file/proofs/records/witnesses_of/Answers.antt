@@ -1,7 +1,6 @@
-use Rattle.std.proofs.Common.{◌≡◌, None, Some, rules}
-use Rattle.hierarchy.specs.Lists.{WitnessLists}
-use Rattle.hierarchy_file.specs.Spelling.{key_of_witness}
-use Rattle.hierarchy_file.specs.Reading.{many_ascending, witness_at}
+use Rattle.plan_base.proofs.Common.{◌≡◌, None, Some, rules}
+use Rattle.hierarchy.specs.{WitnessLists}
+use Rattle.hierarchy_file.specs.{key_of_witness, many_ascending, witness_at}
 use Rattle.hierarchy_file.proofs.LoopLemmas.{goes_on, halts, is_done}
 use Rattle.hierarchy_file.proofs.records.witnesses_of.Goals as goal
 

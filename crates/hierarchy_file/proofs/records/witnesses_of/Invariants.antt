@@ -1,6 +1,5 @@
-use Rattle.std.proofs.Common.{◌≡◌, ◌-◌, None}
-use Rattle.hierarchy_file.specs.Spelling.{key_of_witness}
-use Rattle.hierarchy_file.specs.Reading.{many_ascending, witness_at}
+use Rattle.plan_base.proofs.Common.{◌≡◌, ◌-◌, None}
+use Rattle.hierarchy_file.specs.{key_of_witness, many_ascending, witness_at}
 use Rattle.file_records.proofs.RowLaws.{with_front}
 use Rattle.hierarchy_file.proofs.records.witnesses_of.Given as goal
 

@@ -1,4 +1,4 @@
-use Rattle.std.proofs.lemmas.Result.{IfOk-weaker}
+use Rattle.plan_base.proofs.Common.{IfOk-weaker}
 use Rattle.journey.proofs.CopyLemmas.{copies_in_range, row_of_copies}
 use Rattle.journey.proofs.copy_list.copies.Goals as goal
 

@@ -1,5 +1,4 @@
-use Rattle.std.proofs.Common.{◌≡◌, ◌∙◌, ℕ, ◌+◌, ◌-◌, List, [], ◌∷◌, ◌++◌, ap, sym, arith}
-use Rattle.std.specs.List.{range_with_len}
+use Rattle.plan_base.proofs.Common.{◌≡◌, ◌∙◌, ℕ, ◌+◌, ◌-◌, List, [], ◌∷◌, ◌++◌, ap, sym, arith, range_with_len}
 use Rattle.journey.proofs.CopyLemmas.{range_more}
 use Rattle.journey.proofs.copy_list.numbers.Goals as goal
 

@@ -1,5 +1,4 @@
-use Rattle.std.proofs.Common.{◌≡◌, ◌-◌}
-use Rattle.std.specs.List.{range_with_len}
+use Rattle.plan_base.proofs.Common.{◌≡◌, ◌-◌, range_with_len}
 use Rattle.journey.proofs.copy_list.numbers.Given as goal
 
 abbrev pub invariant-loop-v : goal.invariant-loop-v

@@ -1,4 +1,4 @@
-use Rattle.mode_network.specs.Copies.{IsCopy}
+use Rattle.mode_network.specs.{IsCopy}
 use Rattle.journey.proofs.QueryLemmas.{some_exactly}
 use Rattle.journey.proofs.endpoints.is_known.Goals as goal
 

@@ -1,5 +1,5 @@
-use Rattle.std.proofs.Common.{sym, subst}
-use Rattle.journey.specs.Queries.{IsKnown}
+use Rattle.plan_base.proofs.Common.{sym, subst}
+use Rattle.journey.specs.{IsKnown}
 use Rattle.journey.proofs.QueryLemmas.{far_away, far_away_in, unknown_id, unknown_name}
 use Rattle.journey.proofs.endpoints.lack_of.Goals as goal
 

@@ -1,5 +1,5 @@
-use Rattle.std.proofs.Common.{◌∙◌, ap}
-use Rattle.journey.specs.Texts.{block_text}
+use Rattle.plan_base.proofs.Common.{◌∙◌, ap}
+use Rattle.journey.specs.{block_text}
 use Rattle.journey.proofs.large.large_block.Goals as goal
 
 pub returns : goal.returns

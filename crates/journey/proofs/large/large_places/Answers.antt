@@ -1,7 +1,5 @@
-use Rattle.std.proofs.Common.{sym, subst}
-use Rattle.std.proofs.lemmas.Result.{IfOk-weaker}
-use Rattle.journey.specs.Best.{asked_by}
-use Rattle.journey.specs.Large.{IsLargeIfAny}
+use Rattle.plan_base.proofs.Common.{sym, subst, IfOk-weaker}
+use Rattle.journey.specs.{asked_by, IsLargeIfAny}
 use Rattle.journey.proofs.LargeLemmas.{is_large, is_small, unread_small}
 use Rattle.journey.proofs.large.large_places.Goals as goal
 

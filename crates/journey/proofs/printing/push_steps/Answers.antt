@@ -1,6 +1,6 @@
-use Rattle.std.proofs.Common.{◌∙◌, ◌++◌, List, ℕ, ap}
-use Rattle.plain_texts.specs.Lines.{with_feed}
-use Rattle.journey.specs.Texts.{word_text}
+use Rattle.plan_base.proofs.Common.{◌∙◌, ◌++◌, List, ℕ, ap}
+use Rattle.plain_texts.specs.{with_feed}
+use Rattle.journey.specs.{word_text}
 use Rattle.journey.proofs.PrintLemmas.{adds_journey}
 use Rattle.journey.proofs.printing.push_steps.Goals as goal
 

@@ -1,11 +1,7 @@
-use Rattle.std.proofs.Common.{◌∙◌, ap, refl, sym}
-use Rattle.std.specs.Prelude.{option_map}
-use Rattle.std.proofs.lemmas.Result.{err_from_is_err_and}
-use Rattle.mode_expression.specs.Form.{form_of}
-use Rattle.journey.specs.inside.Shown.{shape_shown}
-use Rattle.journey.specs.Shapes.{departs_at}
-use Rattle.journey.proofs.QueryLemmas.{clock_refusal, destination_refusal, expression_refusal}
-use Rattle.journey.proofs.LineLemmas.{query_is_line}
+use Rattle.plan_base.proofs.Common.{◌∙◌, ap, refl, sym, option_map, err_from_is_err_and}
+use Rattle.mode_expression.specs.{form_of}
+use Rattle.journey.specs.{inside.shape_shown, departs_at}
+use Rattle.journey.proofs.{QueryLemmas.clock_refusal, QueryLemmas.destination_refusal, QueryLemmas.expression_refusal, LineLemmas.query_is_line}
 use Rattle.journey.proofs.query.read_query.Goals as goal
 
 pub returns-in_err-depart-clause-fault : goal.returns-in_err-depart-clause-fault

@@ -1,6 +1,5 @@
-use Rattle.std.proofs.Common.{ℕ, ◌+◌, ap, sym, subst}
-use Rattle.std.proofs.lemmas.List.{get_or_default}
-use Rattle.journey.specs.Real.{IsFirstBad}
+use Rattle.plan_base.proofs.Common.{ℕ, ◌+◌, ap, sym, subst, get_or_default}
+use Rattle.journey.specs.{IsFirstBad}
 use Rattle.journey.proofs.WalkLemmas.{walking_more, walking_ends}
 use Rattle.journey.proofs.real.walk.Goals as goal
 

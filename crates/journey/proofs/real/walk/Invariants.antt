@@ -1,4 +1,4 @@
-use Rattle.std.proofs.Common.{◌≡◌}
+use Rattle.plan_base.proofs.Common.{◌≡◌}
 use Rattle.journey.proofs.WalkLemmas.{IsWalking}
 use Rattle.journey.proofs.real.walk.Given as goal
 

@@ -1,4 +1,4 @@
-use Rattle.std.proofs.lemmas.Result.{IfOk-weaker}
+use Rattle.plan_base.proofs.Common.{IfOk-weaker}
 use Rattle.journey.proofs.WalkLemmas.{word_spelt}
 use Rattle.journey.proofs.real.word.Goals as goal
 

@@ -1,5 +1,4 @@
-use Rattle.std.proofs.Common.{◌≡◌, length, arith}
-use Rattle.std.proofs.lemmas.List.{get_or_default}
+use Rattle.plan_base.proofs.Common.{◌≡◌, length, arith, get_or_default}
 use Rattle.journey.proofs.WalkLemmas.{spelling_more, spelled_all}
 use Rattle.journey.proofs.real.word_of.Goals as goal
 

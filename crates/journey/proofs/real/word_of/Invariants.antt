@@ -1,5 +1,5 @@
-use Rattle.std.proofs.Common.{ℕ}
-use Rattle.journey.specs.Ends.{AreTaken}
+use Rattle.plan_base.proofs.Common.{ℕ}
+use Rattle.journey.specs.{AreTaken}
 use Rattle.journey.proofs.WalkLemmas.{IsSpelled}
 use Rattle.journey.proofs.real.word_of.Given as goal
 

@@ -1,4 +1,4 @@
-use Rattle.std.proofs.Common.{◌∙◌, sym}
+use Rattle.plan_base.proofs.Common.{◌∙◌, sym}
 use Rattle.journey.proofs.RideLemmas.{stop_named}
 use Rattle.journey.proofs.rides.alighting.Goals as goal
 

@@ -1,4 +1,4 @@
-use Rattle.std.proofs.Common.{arith}
+use Rattle.plan_base.proofs.Common.{arith}
 use Rattle.journey.proofs.RideLemmas.{allowed_there, no_ride}
 use Rattle.journey.proofs.rides.ride_end.Goals as goal
 

@@ -1,6 +1,5 @@
-use Rattle.std.proofs.Common.{subst}
-use Rattle.mode_network.specs.declared.steps.Step.{Step}
-use Rattle.mode_network.specs.Journeys.{IsStep}
+use Rattle.plan_base.proofs.Common.{subst}
+use Rattle.mode_network.specs.{Step, IsStep}
 use Rattle.journey.proofs.step_ends.step_end.Goals as goal
 
 pub returns-in-None : goal.returns-in-None

@@ -1,6 +1,5 @@
-use Rattle.std.proofs.lemmas.List.{get_or_default}
-use Rattle.journey.proofs.ToldLemmas.{telling_more, goes_on}
-use Rattle.journey.proofs.StepLemmas.{step_in_range, step_there}
+use Rattle.plan_base.proofs.Common.{get_or_default}
+use Rattle.journey.proofs.{ToldLemmas.telling_more, ToldLemmas.goes_on, StepLemmas.step_in_range, StepLemmas.step_there}
 use Rattle.journey.proofs.telling.tell.Goals as goal
 
 pub loop-step-preserved : goal.loop-step-preserved

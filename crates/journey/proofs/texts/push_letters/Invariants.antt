@@ -1,6 +1,5 @@
-use Rattle.std.proofs.Common.{◌≡◌, ◌++◌, ◌∷◌, take}
-use Rattle.std.specs.List.{flat_map}
-use Rattle.journey.specs.Texts.{letter_text}
+use Rattle.plan_base.proofs.Common.{◌≡◌, ◌++◌, ◌∷◌, take, flat_map}
+use Rattle.journey.specs.{letter_text}
 use Rattle.journey.proofs.texts.push_letters.Given as goal
 
 abbrev pub invariant-loop-letter : goal.invariant-loop-letter

@@ -1,7 +1,5 @@
-use Rattle.std.proofs.Common.{◌≡◌, ◌∙◌, List, ℕ, true, false, ap, sym, string_bytes}
-use Rattle.std.specs.Prelude.{codes, option_and_then, option_map}
-use Rattle.std.specs.Str.{bytes_eq}
-use Rattle.journey_book.specs.Given.{given_view, with_hierarchy, with_word}
+use Rattle.plan_base.proofs.Common.{◌≡◌, ◌∙◌, List, ℕ, true, false, ap, sym, string_bytes, codes, option_and_then, option_map, bytes_eq}
+use Rattle.journey_book.specs.{given_view, with_hierarchy, with_word}
 use Rattle.journey_book.proofs.GivenLemmas.{alone_read, hierarchy_read, word_read}
 use Rattle.journey_book.proofs.given.+read_few.Goals as goal
 

@@ -1,5 +1,4 @@
-use Rattle.std.proofs.Common.{arith, map, string_bytes, length, ◌<◌, ◌≡◌}
-use Rattle.std.proofs.lemmas.List.{length-map}
+use Rattle.plan_base.proofs.Common.{arith, map, string_bytes, length, ◌<◌, ◌≡◌, length-map}
 use Rattle.journey_book.proofs.GivenLemmas.{few_words}
 use Rattle.journey_book.proofs.given.read_given.Goals as goal
 

@@ -1,5 +1,4 @@
-use Rattle.std.proofs.Common.{inl, inr}
-use Rattle.std.proofs.lemmas.Result.{err_from_is_err_and}
+use Rattle.plan_base.proofs.Common.{inl, inr, err_from_is_err_and}
 use Rattle.plan_base.proofs.MoreWritten.{stays_so as unwritten}
 use Rattle.answer_commands.proofs.LentLemmas.{lent_sound}
 use Rattle.journey_book.proofs.KeeperLemmas.{stays_so}

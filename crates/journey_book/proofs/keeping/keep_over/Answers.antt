@@ -1,5 +1,4 @@
-use Rattle.std.proofs.Common.{inl, inr}
-use Rattle.std.proofs.lemmas.Result.{err_from_is_err_and}
+use Rattle.plan_base.proofs.Common.{inl, inr, err_from_is_err_and}
 use Rattle.plan_base.proofs.MoreWritten.{stays_so as unwritten}
 use Rattle.journey_book.proofs.KeeperLemmas.{stays_so}
 use Rattle.journey_book.proofs.keeping.keep_over.Goals as goal

@@ -1,5 +1,5 @@
 use Rattle.plan_base.proofs.MoreWritten.{stays_so as unwritten}
-use Rattle.run_steps.specs.Scene.{scene_of}
+use Rattle.run_steps.specs.{scene_of}
 use Rattle.journey_book.proofs.RunLemmas.{change_fails, tells_all}
 use Rattle.journey_book.proofs.keeping.put.Goals as goal
 

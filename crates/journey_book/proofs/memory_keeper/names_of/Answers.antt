@@ -1,4 +1,4 @@
-use Rattle.std.proofs.Common.{rules}
+use Rattle.plan_base.proofs.Common.{rules}
 use Rattle.journey_book.proofs.BookLemmas.{names_are}
 use Rattle.journey_book.proofs.memory_keeper.names_of.Goals as goal
 

@@ -1,5 +1,4 @@
-use Rattle.std.specs.Prelude.{◌≡◌, ◌++◌, map, string_bytes}
-use Rattle.std.specs.BTreeMap.{keys}
+use Rattle.plan_base.proofs.Common.{◌≡◌, ◌++◌, map, string_bytes, keys}
 use Rattle.journey_book.proofs.memory_keeper.names_of.Given as goal
 
 -- the names so far, and those that are left, are the map's

@@ -1,4 +1,4 @@
-use Rattle.std.proofs.Common.{Some}
+use Rattle.plan_base.proofs.Common.{Some}
 use Rattle.journey_book.proofs.BookLemmas.{book_updates}
 use Rattle.journey_book.proofs.memory_keeper.put_in.Goals as goal
 

@@ -1,4 +1,4 @@
-use Rattle.std.proofs.Common.{None}
+use Rattle.plan_base.proofs.Common.{None}
 use Rattle.journey_book.proofs.BookLemmas.{book_updates}
 use Rattle.journey_book.proofs.memory_keeper.remove_from.Goals as goal
 

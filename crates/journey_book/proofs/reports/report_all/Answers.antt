@@ -1,12 +1,7 @@
-use Rattle.std.proofs.Common.{◌≡◌, ◌∙◌, ◌+◌, ◌<◌, ◌++◌, ◌∷◌, [], List, ℕ, Bool, map, string_bytes, option_map, take, length, subst, refl, arith, rules, sym, ap, ap₂}
-use Rattle.std.specs.Prelude.{◌&&◌, codes}
-use Rattle.std.proofs.lemmas.List.{map-append, take_more}
-use Rattle.plain_texts.specs.Lines.{with_feed}
-use Rattle.journey_book.specs.Keepers.{Tells}
-use Rattle.journey_book.specs.Reports.{HasReported}
-use Rattle.journey_book.specs.Rules.{rule_of}
-use Rattle.journey_book.proofs.KeeperLemmas.{stays_over, stays_so, told_before}
-use Rattle.journey_book.proofs.ReportLemmas.{has_more}
+use Rattle.plan_base.proofs.Common.{◌≡◌, ◌∙◌, ◌+◌, ◌<◌, ◌++◌, ◌∷◌, [], List, ℕ, Bool, map, string_bytes, option_map, take, length, subst, refl, arith, rules, sym, ap, ap₂, ◌&&◌, codes, map-append, take_more}
+use Rattle.plain_texts.specs.{with_feed}
+use Rattle.journey_book.specs.{Tells, HasReported, rule_of}
+use Rattle.journey_book.proofs.{KeeperLemmas.stays_over, KeeperLemmas.stays_so, KeeperLemmas.told_before, ReportLemmas.has_more}
 use Rattle.journey_book.proofs.reports.report_all.Goals as goal
 
 pub loop-name-init : goal.loop-name-init

@@ -1,7 +1,5 @@
-use Rattle.std.specs.Prelude.{◌≤◌, map, string_bytes, take}
-use Rattle.journey_book.specs.Keepers.{BookStays}
-use Rattle.journey_book.specs.Reports.{HasReported}
-use Rattle.journey_book.specs.Rules.{rule_of}
+use Rattle.plan_base.proofs.Common.{◌≤◌, map, string_bytes, take}
+use Rattle.journey_book.specs.{BookStays, HasReported, rule_of}
 use Rattle.journey_book.proofs.reports.report_all.Given as goal
 
 -- the book has stayed, and the lines so far are of the names so far

@@ -1,7 +1,5 @@
-use Rattle.std.proofs.Common.{List, map, string_bytes, subst}
-use Rattle.std.proofs.lemmas.Result.{IfOk-weaker}
-use Rattle.journey_book.specs.Reports.{HasReported}
-use Rattle.journey_book.specs.Rules.{rule_of}
+use Rattle.plan_base.proofs.Common.{List, map, string_bytes, subst, IfOk-weaker}
+use Rattle.journey_book.specs.{HasReported, rule_of}
 use Rattle.journey_book.proofs.ReportLemmas.{has_before}
 use Rattle.journey_book.proofs.reports.report_of.Goals as goal
 

@@ -1,5 +1,4 @@
-use Rattle.journey_book.specs.Reports.{IsSaidOn}
-use Rattle.journey_book.specs.Rules.{rule_of}
+use Rattle.journey_book.specs.{IsSaidOn, rule_of}
 use Rattle.journey_book.proofs.ReportLemmas.{all_added}
 use Rattle.journey_book.proofs.reports.said_on.Goals as goal
 

@@ -1,8 +1,8 @@
-use Rattle.std.proofs.Common.{Option, ap, inr, subst, sym}
-use Rattle.mode_network.specs.Journeys.{Route}
-use Rattle.journey.specs.Best.{asked_by}
-use Rattle.planning.specs.Plans.{IsPlan}
-use Rattle.journey_book.specs.Reviews.{IsAnswered, arrival_words}
+use Rattle.plan_base.proofs.Common.{Option, ap, inr, subst, sym}
+use Rattle.mode_network.specs.{Route}
+use Rattle.journey.specs.{asked_by}
+use Rattle.planning.specs.{IsPlan}
+use Rattle.journey_book.specs.{IsAnswered, arrival_words}
 use Rattle.journey_book.proofs.ReportLemmas.{adds}
 use Rattle.journey_book.proofs.reviewing.push_answer.Goals as goal
 

@@ -1,9 +1,7 @@
-use Rattle.std.proofs.Common.{◌≡◌, ℕ, List, Option, inr, subst, rules}
-use Rattle.std.specs.Prelude.{OnOk}
-use Rattle.mode_network.specs.Journeys.{Route}
-use Rattle.journey.specs.Best.{Asks, asked_by}
-use Rattle.journey.specs.Blocks.{AddsText}
-use Rattle.journey_book.specs.Reviews.{IsAnswered, IsReviewed}
+use Rattle.plan_base.proofs.Common.{◌≡◌, ℕ, List, Option, inr, subst, rules, OnOk}
+use Rattle.mode_network.specs.{Route}
+use Rattle.journey.specs.{Asks, asked_by, AddsText}
+use Rattle.journey_book.specs.{IsAnswered, IsReviewed}
 use Rattle.journey_book.proofs.ReportLemmas.{adds_as}
 use Rattle.journey_book.proofs.reviewing.push_reviewed.Goals as goal
 

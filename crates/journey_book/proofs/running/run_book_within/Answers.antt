@@ -1,9 +1,7 @@
-use Rattle.std.proofs.Common.{map, string_bytes, subst}
-use Rattle.journey_book.specs.Commands.{book_says}
-use Rattle.journey_book.specs.Requests.{BookRequest, book_request_of}
-use Rattle.run_steps.specs.Scene.{scene_of}
-use Rattle.journey_book.proofs.CompleteLemmas.{completes}
-use Rattle.journey_book.proofs.WordLemmas.{asked_once}
+use Rattle.plan_base.proofs.Common.{map, string_bytes, subst}
+use Rattle.journey_book.specs.{book_says, BookRequest, book_request_of}
+use Rattle.run_steps.specs.{scene_of}
+use Rattle.journey_book.proofs.{CompleteLemmas.completes, WordLemmas.asked_once}
 use Rattle.journey_book.proofs.running.run_book_within.Goals as goal
 
 pub returns-in-Err-clause-complete : goal.returns-in-Err-clause-complete

@@ -1,9 +1,7 @@
-use Rattle.std.proofs.Common.{◌≡◌, ◌∙◌, List, ap, map, string_bytes, subst, sym}
-use Rattle.plain_texts.specs.Lines.{lines_text}
-use Rattle.run_steps.specs.Scene.{scene_of}
-use Rattle.journey_book.specs.Reports.{IsListing}
-use Rattle.journey_book.specs.Sayings.{ThenDone, BookWrites}
-use Rattle.journey_book.specs.declared.outcome.BookOutcome.{BookOutcome}
+use Rattle.plan_base.proofs.Common.{◌≡◌, ◌∙◌, List, ap, map, string_bytes, subst, sym}
+use Rattle.plain_texts.specs.{lines_text}
+use Rattle.run_steps.specs.{scene_of}
+use Rattle.journey_book.specs.{IsListing, ThenDone, BookWrites, BookOutcome}
 use Rattle.journey_book.proofs.RunLemmas.{text_written}
 use Rattle.journey_book.proofs.showing.list.Goals as goal
 

@@ -1,6 +1,5 @@
-use Rattle.std.proofs.Common.{◌≡◌, ◌∙◌, ◌+◌, ◌<◌, ◌++◌, ◌∷◌, [], List, ℕ, map, string_bytes, take, length, arith, sym, ap, ap₂, append_assoc}
-use Rattle.std.proofs.lemmas.List.{map-append, take_more}
-use Rattle.plain_texts.specs.Lines.{lines_text, with_feed}
+use Rattle.plan_base.proofs.Common.{◌≡◌, ◌∙◌, ◌+◌, ◌<◌, ◌++◌, ◌∷◌, [], List, ℕ, map, string_bytes, take, length, arith, sym, ap, ap₂, append_assoc, map-append, take_more}
+use Rattle.plain_texts.specs.{lines_text, with_feed}
 use Rattle.journey_book.proofs.ReportLemmas.{lines_more}
 use Rattle.journey_book.proofs.showing.listed.Goals as goal
 

@@ -1,5 +1,5 @@
-use Rattle.std.specs.Prelude.{◌≡◌, map, string_bytes, take}
-use Rattle.plain_texts.specs.Lines.{lines_text}
+use Rattle.plan_base.proofs.Common.{◌≡◌, map, string_bytes, take}
+use Rattle.plain_texts.specs.{lines_text}
 use Rattle.journey_book.proofs.showing.listed.Given as goal
 
 abbrev pub invariant-loop-name : goal.invariant-loop-name

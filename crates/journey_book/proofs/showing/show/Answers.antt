@@ -1,9 +1,6 @@
-use Rattle.std.proofs.Common.{◌≡◌, ℕ, List, Option, Some, Global, inr, option_map, subst, sym}
-use Rattle.std.specs.Prelude.{Vec}
-use Rattle.run_steps.specs.Scene.{scene_of}
-use Rattle.journey_book.specs.Keepers.{Tells}
-use Rattle.journey_book.specs.Sayings.{ThenDone, BookWrites}
-use Rattle.journey_book.specs.declared.outcome.BookOutcome.{BookOutcome}
+use Rattle.plan_base.proofs.Common.{◌≡◌, ℕ, List, Option, Some, inr, option_map, subst, sym, Vec, Global}
+use Rattle.run_steps.specs.{scene_of}
+use Rattle.journey_book.specs.{Tells, ThenDone, BookWrites, BookOutcome}
 use Rattle.journey_book.proofs.RunLemmas.{text_written}
 use Rattle.journey_book.proofs.showing.show.Goals as goal
 

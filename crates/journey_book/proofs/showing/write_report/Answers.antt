@@ -1,11 +1,7 @@
-use Rattle.std.proofs.Common.{◌≡◌, ◌∙◌, ap, subst, sym}
+use Rattle.plan_base.proofs.Common.{◌≡◌, ◌∙◌, ap, subst, sym}
 use Rattle.plan_base.proofs.MoreWritten.{stays_so as unwritten}
-use Rattle.run_steps.specs.Scene.{scene_of}
-use Rattle.journey_book.specs.Reports.{IsReport, IsReported, end_by}
-use Rattle.journey_book.specs.Rules.{rule_of}
-use Rattle.journey_book.specs.Sayings.{BookWrites, book_end_of}
-use Rattle.journey_book.specs.Working.{ended_by}
-use Rattle.journey_book.specs.declared.outcome.BookOutcome.{BookOutcome}
+use Rattle.run_steps.specs.{scene_of}
+use Rattle.journey_book.specs.{IsReport, IsReported, end_by, rule_of, BookWrites, book_end_of, ended_by, BookOutcome}
 use Rattle.journey_book.proofs.RunLemmas.{report_written, telling_fails}
 use Rattle.journey_book.proofs.showing.write_report.Goals as goal
 

@@ -1,6 +1,5 @@
-use Rattle.std.proofs.Common.{sym}
-use Rattle.journey_book.specs.Given.{given_view}
-use Rattle.journey_book.specs.Requests.{book_commands}
+use Rattle.plan_base.proofs.Common.{sym}
+use Rattle.journey_book.specs.{given_view, book_commands}
 use Rattle.journey_book.proofs.NameLemmas.{asks_for_none}
 use Rattle.journey_book.proofs.words.named.Goals as goal
 

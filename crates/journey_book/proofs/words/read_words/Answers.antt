@@ -1,7 +1,5 @@
-use Rattle.std.proofs.Common.{◌∙◌, List, ℕ, ap, string_bytes, sym}
-use Rattle.std.specs.Prelude.{option_and_then, option_map}
-use Rattle.journey_book.specs.Given.{given_view}
-use Rattle.journey_book.specs.Requests.{request_by}
+use Rattle.plan_base.proofs.Common.{◌∙◌, List, ℕ, ap, string_bytes, sym, option_and_then, option_map}
+use Rattle.journey_book.specs.{given_view, request_by}
 use Rattle.journey_book.proofs.WordLemmas.{none_asked, words_asked}
 use Rattle.journey_book.proofs.words.read_words.Goals as goal
 

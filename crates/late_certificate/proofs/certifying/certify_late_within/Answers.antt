@@ -1,12 +1,9 @@
-use Rattle.std.proofs.Common.{◌∙◌, refl, ap, subst}
-use Rattle.mode_network.specs.NetworkLists.{NetworkLists}
-use Rattle.mode_network.specs.Rules.{IsNetwork}
-use Rattle.service_days.specs.Days.{AreDays, AreRisingDays}
-use Rattle.journey.specs.Best.{Asked, asked_by}
-use Rattle.journey.specs.Rides.{KeepsRules}
-use Rattle.latest_departure.specs.Latest.{AreLateLabels}
-use Rattle.latest_departure.proofs.CertifyLemmas.{late_is_valid}
-use Rattle.latest_departure.proofs.ValidLemmas.{valid_late_proves}
+use Rattle.plan_base.proofs.Common.{◌∙◌, refl, ap, subst}
+use Rattle.mode_network.specs.{NetworkLists.NetworkLists, IsNetwork}
+use Rattle.service_days.specs.{AreDays, AreRisingDays}
+use Rattle.journey.specs.{Asked, asked_by, KeepsRules}
+use Rattle.latest_departure.specs.{AreLateLabels}
+use Rattle.latest_departure.proofs.{CertifyLemmas.late_is_valid, ValidLemmas.valid_late_proves}
 use Rattle.late_certificate.proofs.VerifyLemmas.{late_fits, one_asked}
 use Rattle.late_certificate.proofs.certifying.certify_late_within.Goals as goal
 

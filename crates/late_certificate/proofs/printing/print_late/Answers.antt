@@ -1,12 +1,10 @@
-use Rattle.std.proofs.Common.{◌≡◌, map, subst, append_assoc}
-use Rattle.std.specs.List.{AllByRecursion}
+use Rattle.plan_base.proofs.Common.{◌≡◌, map, subst, append_assoc, AllByRecursion}
 use Rattle.certificate.specs.Lines as usual_lines
-use Rattle.certificate.specs.Texts.{label_lines}
+use Rattle.certificate.specs.{label_lines}
 use Rattle.certificate.proofs.FitLemmas.{of_both}
-use Rattle.latest_departure.specs.ValidLate.{LateClaim}
+use Rattle.latest_departure.specs.{LateClaim}
 use Rattle.late_certificate.specs.declared.lines.Line.TheVariants as line
-use Rattle.late_certificate.specs.Lines.{FitsLine}
-use Rattle.late_certificate.specs.Texts.{late_lines, late_text, result_lines}
+use Rattle.late_certificate.specs.{FitsLine, late_lines, late_text, result_lines}
 use Rattle.late_certificate.proofs.TextLemmas.{usual_fit, whole_text}
 use Rattle.late_certificate.proofs.printing.print_late.Goals as goal
 

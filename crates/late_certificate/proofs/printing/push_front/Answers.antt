@@ -1,4 +1,4 @@
-use Rattle.std.proofs.Common.{append_assoc}
+use Rattle.plan_base.proofs.Common.{append_assoc}
 use Rattle.late_certificate.proofs.TextLemmas.{front_text}
 use Rattle.late_certificate.proofs.printing.push_front.Goals as goal
 

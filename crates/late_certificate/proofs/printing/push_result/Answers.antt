@@ -1,15 +1,12 @@
-use Rattle.std.proofs.Common.{◌≡◌, ◌<◌, ◌^◌, ◌++◌, ◌∙◌, ap, map, subst, sym, append_assoc}
-use Rattle.std.specs.Prelude.{Some, All}
-use Rattle.std.specs.List.{AllByRecursion}
-use Rattle.plain_texts.specs.Lines.{lines_text}
-use Rattle.journey.specs.Ends.{HasTime}
-use Rattle.mode_network.specs.Journeys.{Route}
+use Rattle.plan_base.proofs.Common.{◌≡◌, ◌<◌, ◌^◌, ◌++◌, ◌∙◌, ap, map, subst, sym, append_assoc, Some, All, AllByRecursion}
+use Rattle.plain_texts.specs.{lines_text}
+use Rattle.journey.specs.{HasTime}
+use Rattle.mode_network.specs.{Route}
 use Rattle.certificate.specs.declared.lines.Line.TheVariants as usual
-use Rattle.certificate.specs.Lines.{FitsStep}
+use Rattle.certificate.specs.{FitsStep}
 use Rattle.certificate.specs.Lines as usual_lines
 use Rattle.certificate.proofs.FitLemmas.{made_alike_fit}
-use Rattle.late_certificate.specs.Lines.{FitsLine, spelled}
-use Rattle.late_certificate.specs.Texts.{FitsLateResult, result_lines}
+use Rattle.late_certificate.specs.{FitsLine, spelled, FitsLateResult, result_lines}
 use Rattle.late_certificate.proofs.TextLemmas.{steps_text, usual_fit}
 use Rattle.late_certificate.proofs.printing.push_result.Goals as goal
 

@@ -1,6 +1,5 @@
 use Rattle.certificate.proofs.Making.{gives_found, gives_only}
-use Rattle.late_certificate.specs.Reading.{late_of}
-use Rattle.late_certificate.specs.Texts.{IsLateText}
+use Rattle.late_certificate.specs.{late_of, IsLateText}
 use Rattle.late_certificate.proofs.ReadLaws.{found, again, gives_cause}
 use Rattle.late_certificate.proofs.reading.read_late.Goals as goal
 

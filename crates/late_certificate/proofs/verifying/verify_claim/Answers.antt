@@ -1,13 +1,11 @@
-use Rattle.std.proofs.Common.{refl, sym, subst, arith}
-use Rattle.mode_network.specs.NetworkLists.{NetworkLists}
-use Rattle.mode_network.specs.Timetables.{IsTimetableOf}
-use Rattle.service_days.specs.Days.{AreDays, AreRisingDays}
-use Rattle.journey.specs.Best.{asked_by}
-use Rattle.journey.specs.Rides.{KeepsRules}
+use Rattle.plan_base.proofs.Common.{refl, sym, subst, arith}
+use Rattle.mode_network.specs.{NetworkLists.NetworkLists, IsTimetableOf}
+use Rattle.service_days.specs.{AreDays, AreRisingDays}
+use Rattle.journey.specs.{asked_by, KeepsRules}
 use Rattle.certificate.proofs.VerifyLemmas.{automaton_denotes, few_copies}
-use Rattle.latest_departure.specs.Latest.{AreSwappedEnds}
+use Rattle.latest_departure.specs.{AreSwappedEnds}
 use Rattle.latest_departure.proofs.ValidLemmas.{valid_late_proves}
-use Rattle.late_certificate.specs.Verdicts.{IsLateVerdict, claim_on}
+use Rattle.late_certificate.specs.{IsLateVerdict, claim_on}
 use Rattle.late_certificate.proofs.VerifyLemmas.{result_holds, starts_by, bound_small, search_judged}
 use Rattle.late_certificate.proofs.verifying.verify_claim.Goals as goal
 

@@ -1,8 +1,7 @@
-use Rattle.std.proofs.Common.{◌≡◌, sym, ◌∙◌, subst}
-use Rattle.std.specs.Prelude.{IfOk}
+use Rattle.plan_base.proofs.Common.{◌≡◌, sym, ◌∙◌, subst, IfOk}
 use Rattle.certificate.specs.declared.verdict.CertVerdict.TheVariants.{Valid}
-use Rattle.latest_departure.specs.ValidLate.{LateClaim, ProvesLate}
-use Rattle.late_certificate.specs.Verdicts.{HaveTimes, IsLateVerdict}
+use Rattle.latest_departure.specs.{LateClaim, ProvesLate}
+use Rattle.late_certificate.specs.{HaveTimes, IsLateVerdict}
 use Rattle.late_certificate.proofs.VerifyLemmas.{claim_is}
 use Rattle.late_certificate.proofs.verifying.verify_late.Goals as goal
 

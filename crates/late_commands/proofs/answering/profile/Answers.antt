@@ -1,15 +1,9 @@
-use Rattle.std.proofs.Common.{subst}
-use Rattle.std.proofs.lemmas.Result.{err_from_is_err_and}
+use Rattle.plan_base.proofs.Common.{subst, err_from_is_err_and}
 use Rattle.mode_network.specs.NetworkLists.{NetworkLists}
-use Rattle.journey.specs.Large.{IsBlockUnder}
-use Rattle.departures.specs.Blocks.{IsProfileBlock}
-use Rattle.run_steps.specs.declared.outcome.FileRole.TheVariants.{Queries}
-use Rattle.run_steps.specs.declared.outcome.Outcome.TheVariants.{Done}
-use Rattle.run_steps.specs.Scene.{scene}
-use Rattle.run_steps.specs.InTurn.{AnswersFile}
-use Rattle.run_steps.specs.Sayings.{Ends, end_of}
-use Rattle.run_steps.proofs.PieceLemmas.{stops_early}
-use Rattle.run_steps.proofs.Steps.{on_region}
+use Rattle.journey.specs.{IsBlockUnder}
+use Rattle.departures.specs.{IsProfileBlock}
+use Rattle.run_steps.specs.{declared.outcome.FileRole.TheVariants.Queries, Done, scene, AnswersFile, Ends, end_of}
+use Rattle.run_steps.proofs.{PieceLemmas.stops_early, Steps.on_region}
 use Rattle.late_commands.proofs.answering.profile.Goals as goal
 
 pub returns-in_err-least : goal.returns-in_err-least

@@ -1,7 +1,5 @@
-use Rattle.std.proofs.Common.{List, ℕ, ◌≤◌, length, subst}
-use Rattle.std.proofs.lemmas.Result.{IfOk-weaker}
-use Rattle.std.specs.Prelude.{IfSome}
-use Rattle.late_certificate.specs.Certified.{IsLateCertificateOf}
+use Rattle.plan_base.proofs.Common.{List, ℕ, ◌≤◌, length, subst, IfOk-weaker, IfSome}
+use Rattle.late_certificate.specs.{IsLateCertificateOf}
 use Rattle.late_commands.proofs.CertifyLemmas.{certificate_within}
 use Rattle.late_commands.proofs.certifying.certificate_text.Goals as goal
 

@@ -1,4 +1,4 @@
-use Rattle.std.proofs.lemmas.Result.{IfOk-weaker}
+use Rattle.plan_base.proofs.Common.{IfOk-weaker}
 use Rattle.late_commands.proofs.CertifyLemmas.{refused_within}
 use Rattle.late_commands.proofs.certifying.certified_late_within.Goals as goal
 

@@ -1,6 +1,6 @@
 use Rattle.run_steps.proofs.Steps.{on_region}
-use Rattle.run_steps.specs.Sayings.{WritesText}
-use Rattle.late_commands.specs.Outputs.{IsLateCertified}
+use Rattle.run_steps.specs.{WritesText}
+use Rattle.late_commands.specs.{IsLateCertified}
 use Rattle.late_commands.proofs.certifying.certify_latest.Goals as goal
 
 pub returns : goal.returns

@@ -1,5 +1,5 @@
 use Rattle.run_steps.proofs.Steps.{text_ends}
-use Rattle.late_commands.specs.Outputs.{IsLateCertified}
+use Rattle.late_commands.specs.{IsLateCertified}
 use Rattle.late_commands.proofs.certifying.write_certified.Goals as goal
 
 pub returns : goal.returns

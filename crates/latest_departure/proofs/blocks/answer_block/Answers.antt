@@ -1,8 +1,7 @@
-use Rattle.std.proofs.Common.{◌∙◌, ap}
-use Rattle.std.proofs.lemmas.Result.{IfOk-weaker}
-use Rattle.journey.specs.Texts.{block_text}
+use Rattle.plan_base.proofs.Common.{◌∙◌, ap, IfOk-weaker}
+use Rattle.journey.specs.{block_text}
 use Rattle.journey.proofs.PrintLemmas.{framed_text}
-use Rattle.latest_departure.specs.Blocks.{IsResultText}
+use Rattle.latest_departure.specs.{IsResultText}
 use Rattle.latest_departure.proofs.blocks.answer_block.Goals as goal
 
 pub returns : goal.returns

@@ -1,6 +1,5 @@
-use Rattle.std.proofs.lemmas.Result.{IfOk-weaker}
-use Rattle.latest_departure.proofs.LimitLemmas.{late_refused}
-use Rattle.latest_departure.proofs.TextLemmas.{refused_told}
+use Rattle.plan_base.proofs.Common.{IfOk-weaker}
+use Rattle.latest_departure.proofs.{LimitLemmas.late_refused, TextLemmas.refused_told}
 use Rattle.latest_departure.proofs.blocks.late_block_within.Goals as goal
 
 pub returns-in-Err : goal.returns-in-Err

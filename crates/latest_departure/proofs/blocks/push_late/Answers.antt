@@ -1,8 +1,7 @@
-use Rattle.std.proofs.Common.{◌++◌, ◌∙◌, ap}
-use Rattle.std.specs.Prelude.{codes}
-use Rattle.plain_texts.specs.Lines.{with_feed}
-use Rattle.service_days.specs.Clock.{clock_text_of}
-use Rattle.mode_network.specs.Journeys.{Route}
+use Rattle.plan_base.proofs.Common.{◌++◌, ◌∙◌, ap, codes}
+use Rattle.plain_texts.specs.{with_feed}
+use Rattle.service_days.specs.{clock_text_of}
+use Rattle.mode_network.specs.{Route}
 use Rattle.latest_departure.proofs.TextLemmas.{late_told}
 use Rattle.latest_departure.proofs.blocks.push_late.Goals as goal
 

@@ -1,7 +1,6 @@
-use Rattle.std.proofs.lemmas.Result.{IfOk-weaker}
-use Rattle.journey.specs.Best.{asked_by}
-use Rattle.latest_departure.proofs.LimitLemmas.{late_within, late_stopped}
-use Rattle.latest_departure.proofs.TextLemmas.{late_printable}
+use Rattle.plan_base.proofs.Common.{IfOk-weaker}
+use Rattle.journey.specs.{asked_by}
+use Rattle.latest_departure.proofs.{LimitLemmas.late_within, LimitLemmas.late_stopped, TextLemmas.late_printable}
 use Rattle.latest_departure.proofs.blocks.query_block.Goals as goal
 
 pub returns-in-Stopped : goal.returns-in-Stopped

@@ -1,5 +1,5 @@
-use Rattle.std.proofs.lemmas.Result.{IfOk-weaker}
-use Rattle.journey.specs.Best.{asked_by}
+use Rattle.plan_base.proofs.Common.{IfOk-weaker}
+use Rattle.journey.specs.{asked_by}
 use Rattle.latest_departure.proofs.SearchLemmas.{search_none, search_late}
 use Rattle.latest_departure.proofs.departing.best_at.Goals as goal
 

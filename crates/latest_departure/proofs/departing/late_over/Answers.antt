@@ -1,7 +1,6 @@
-use Rattle.std.proofs.Common.{arith}
-use Rattle.journey.specs.Best.{asked_by}
-use Rattle.latest_departure.proofs.LimitLemmas.{search_has_more}
-use Rattle.latest_departure.proofs.SearchLemmas.{over}
+use Rattle.plan_base.proofs.Common.{arith}
+use Rattle.journey.specs.{asked_by}
+use Rattle.latest_departure.proofs.{LimitLemmas.search_has_more, SearchLemmas.over}
 use Rattle.latest_departure.proofs.departing.late_over.Goals as goal
 
 pub invariant_of-question-clause-starts_there : goal.invariant_of-question-clause-starts_there

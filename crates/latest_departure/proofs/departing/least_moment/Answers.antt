@@ -1,4 +1,4 @@
-use Rattle.journey.specs.Best.{asked_by}
+use Rattle.journey.specs.{asked_by}
 use Rattle.latest_departure.proofs.LimitLemmas.{search_has_more, search_has_at_most}
 use Rattle.latest_departure.proofs.departing.least_moment.Goals as goal
 

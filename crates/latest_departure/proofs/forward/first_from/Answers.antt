@@ -1,9 +1,8 @@
-use Rattle.std.proofs.lemmas.Result.{IfOk-weaker}
-use Rattle.automaton.specs.Collapsed.{collapsed}
-use Rattle.automaton.specs.Meanings.{position_meaning}
-use Rattle.journey.specs.Best.{asked_by}
+use Rattle.plan_base.proofs.Common.{IfOk-weaker}
+use Rattle.automaton.specs.{collapsed, position_meaning}
+use Rattle.journey.specs.{asked_by}
 use Rattle.unpack.proofs.TakenLemmas.{walk_is_plain}
-use Rattle.latest_departure.specs.inside.Forward.{leaving}
+use Rattle.latest_departure.specs.inside.{leaving}
 use Rattle.latest_departure.proofs.ForwardLemmas.{found_first}
 use Rattle.latest_departure.proofs.forward.first_from.Goals as goal
 

@@ -1,6 +1,6 @@
-use Rattle.std.proofs.Common.{◌++◌, ◌∙◌, ap}
-use Rattle.search_laws.specs.declared.labels.Move.{Move}
-use Rattle.latest_departure.specs.Reversed.{turned_move}
+use Rattle.plan_base.proofs.Common.{◌++◌, ◌∙◌, ap}
+use Rattle.search_laws.specs.{Move}
+use Rattle.latest_departure.specs.{turned_move}
 use Rattle.latest_departure.proofs.TurnedLemmas.{turned_pushed}
 use Rattle.latest_departure.proofs.reversed.push_turned.Goals as goal
 

@@ -1,5 +1,5 @@
-use Rattle.std.proofs.Common.{◌≡◌, ◌++◌}
-use Rattle.latest_departure.specs.Reversed.{turned_from}
+use Rattle.plan_base.proofs.Common.{◌≡◌, ◌++◌}
+use Rattle.latest_departure.specs.{turned_from}
 use Rattle.latest_departure.proofs.reversed.push_turned.Given as goal
 
 abbrev pub invariant-loop-i : goal.invariant-loop-i

@@ -1,5 +1,5 @@
-use Rattle.std.proofs.Common.{◌≡◌}
-use Rattle.latest_departure.specs.Reversed.{turned_below}
+use Rattle.plan_base.proofs.Common.{◌≡◌}
+use Rattle.latest_departure.specs.{turned_below}
 use Rattle.latest_departure.proofs.reversed.turned_below.Given as goal
 
 abbrev pub invariant-loop-q : goal.invariant-loop-q

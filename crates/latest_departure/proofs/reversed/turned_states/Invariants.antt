@@ -1,7 +1,5 @@
-use Rattle.std.proofs.Common.{◌≡◌, map}
-use Rattle.std.specs.List.{range_with_len}
-use Rattle.latest_departure.specs.Reversed.{turned_state}
-use Rattle.latest_departure.specs.StateViews.{view_of}
+use Rattle.plan_base.proofs.Common.{◌≡◌, map, range_with_len}
+use Rattle.latest_departure.specs.{turned_state, view_of}
 use Rattle.latest_departure.proofs.reversed.turned_states.Given as goal
 
 abbrev pub invariant-loop-r : goal.invariant-loop-r

@@ -1,9 +1,6 @@
-use Rattle.std.proofs.Common.{◌≡◌, ℕ, ◌+◌, ◌<◌, List, length, nat_lt, Bool, true, false, refl, sym, subst, arith}
-use Rattle.std.specs.Prelude.{slice_index_or}
-use Rattle.std.proofs.lemmas.Bool.{ltb-true, ltb-false}
-use Rattle.std.proofs.lemmas.List.{get_or_default}
-use Rattle.mode_network.specs.declared.steps.Step.{Step}
-use Rattle.journey.specs.Ends.{HasTime}
+use Rattle.plan_base.proofs.Common.{◌≡◌, ℕ, ◌+◌, ◌<◌, List, length, nat_lt, Bool, true, false, refl, sym, subst, arith, slice_index_or, ltb-true, ltb-false, get_or_default}
+use Rattle.mode_network.specs.{Step}
+use Rattle.journey.specs.{HasTime}
 use Rattle.library_cases.proofs.certificates.have_times.Goals as goal
 
 have_more : (steps : List Step) (i : ℕ) (x : Step) → i < length steps → ((k : ℕ) (d : Step) → k < i → HasTime (slice_index_or steps k d))

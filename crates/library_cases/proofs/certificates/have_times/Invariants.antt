@@ -1,7 +1,6 @@
-use Rattle.std.proofs.Common.{ℕ, ◌<◌}
-use Rattle.std.specs.Prelude.{slice_index_or}
-use Rattle.mode_network.specs.declared.steps.Step.{Step}
-use Rattle.journey.specs.Ends.{HasTime}
+use Rattle.plan_base.proofs.Common.{ℕ, ◌<◌, slice_index_or}
+use Rattle.mode_network.specs.{Step}
+use Rattle.journey.specs.{HasTime}
 use Rattle.library_cases.proofs.certificates.have_times.Given as goal
 
 abbrev pub invariant-loop-step : goal.invariant-loop-step

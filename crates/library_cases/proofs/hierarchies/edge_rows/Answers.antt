@@ -1,5 +1,5 @@
-use Rattle.std.proofs.Common.{length, arith}
-use Rattle.mode_network.specs.NetworkLists.{nodes_of}
+use Rattle.plan_base.proofs.Common.{length, arith}
+use Rattle.mode_network.specs.{nodes_of}
 use Rattle.library_cases.proofs.EdgeLemmas.{edge_rows}
 use Rattle.library_cases.proofs.hierarchies.edge_rows.Goals as goal
 

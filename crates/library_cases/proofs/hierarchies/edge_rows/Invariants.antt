@@ -1,6 +1,6 @@
-use Rattle.std.proofs.Common.{◌≡◌, length, All}
-use Rattle.mode_network.specs.NetworkLists.{nodes_of}
-use Rattle.witness.specs.Rows.{IsEdgeOf}
+use Rattle.plan_base.proofs.Common.{◌≡◌, length, All}
+use Rattle.mode_network.specs.{nodes_of}
+use Rattle.witness.specs.{IsEdgeOf}
 use Rattle.library_cases.proofs.hierarchies.edge_rows.Given as goal
 
 abbrev pub invariant-nodes : goal.invariant-nodes

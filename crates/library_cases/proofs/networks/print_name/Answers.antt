@@ -1,6 +1,6 @@
 -- The stop of a node is one of the network's stops, each of which has a name.
-use Rattle.std.proofs.Common.{sym, ◌∙◌, arith}
-use Rattle.plain_graph.specs.inside.OutArcs.{stop_found}
+use Rattle.plan_base.proofs.Common.{sym, ◌∙◌, arith}
+use Rattle.plain_graph.specs.inside.{stop_found}
 use Rattle.library_cases.proofs.networks.print_name.Goals as goal
 
 pub stop_name-requires : goal.stop_name-requires

@@ -1,7 +1,6 @@
-use Rattle.std.proofs.Common.{List, ap, ◌∙◌}
-use Rattle.opl_reader.specs.ObjectLists.{ObjectLists}
-use Rattle.opl_reader.specs.declared.objects.OsmNode.{OsmNode}
-use Rattle.road_profile.specs.Legs.{place_of_node}
+use Rattle.plan_base.proofs.Common.{List, ap, ◌∙◌}
+use Rattle.opl_reader.specs.{ObjectLists.ObjectLists, OsmNode}
+use Rattle.road_profile.specs.{place_of_node}
 use Rattle.library_cases.proofs.roads.arcs_of.Goals as goal
 
 pub road_arcs-requires : goal.road_arcs-requires

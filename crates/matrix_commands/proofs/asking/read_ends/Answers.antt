@@ -1,7 +1,6 @@
-use Rattle.std.proofs.Common.{ℕ, ◌+◌, ◌<◌, ◌∙◌, [], List, length, get_or, map, Option, None, Bor, sym, ap, subst}
-use Rattle.std.proofs.lemmas.List.{length_push}
-use Rattle.journey.specs.declared.query.Query.{Query}
-use Rattle.matrix_commands.specs.inside.Working.{IsEndIfAny}
+use Rattle.plan_base.proofs.Common.{ℕ, ◌+◌, ◌<◌, ◌∙◌, [], List, length, get_or, map, Option, None, Bor, sym, ap, subst, length_push}
+use Rattle.journey.specs.{Query}
+use Rattle.matrix_commands.specs.inside.{IsEndIfAny}
 use Rattle.matrix_commands.proofs.PairLemmas.{ends_more, line_at}
 use Rattle.matrix_commands.proofs.asking.read_ends.Goals as goal
 

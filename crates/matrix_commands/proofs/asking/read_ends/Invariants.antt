@@ -1,5 +1,5 @@
-use Rattle.std.proofs.Common.{◌≡◌, ℕ, ◌<◌, [], length, get_or, map, None}
-use Rattle.matrix_commands.specs.inside.Working.{IsEndIfAny}
+use Rattle.plan_base.proofs.Common.{◌≡◌, ℕ, ◌<◌, [], length, get_or, map, None}
+use Rattle.matrix_commands.specs.inside.{IsEndIfAny}
 use Rattle.matrix_commands.proofs.asking.read_ends.Given as goal
 
 abbrev pub invariant-loop-line : goal.invariant-loop-line

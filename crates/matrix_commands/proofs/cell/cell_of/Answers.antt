@@ -1,5 +1,5 @@
-use Rattle.std.proofs.Common.{inr}
-use Rattle.journey.specs.Best.{asked_by}
+use Rattle.plan_base.proofs.Common.{inr}
+use Rattle.journey.specs.{asked_by}
 use Rattle.matrix_commands.proofs.CellLemmas.{timed_right}
 use Rattle.matrix_commands.proofs.cell.cell_of.Goals as goal
 

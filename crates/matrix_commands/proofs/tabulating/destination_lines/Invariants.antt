@@ -1,5 +1,5 @@
-use Rattle.std.proofs.Common.{◌≡◌, ◌++◌, map, length}
-use Rattle.run_steps.specs.QueryLines.{query_lines}
+use Rattle.plan_base.proofs.Common.{◌≡◌, ◌++◌, map, length}
+use Rattle.run_steps.specs.{query_lines}
 use Rattle.matrix_commands.proofs.tabulating.destination_lines.Given as goal
 
 abbrev pub invariant-lines : goal.invariant-lines

@@ -1,14 +1,8 @@
-use Rattle.std.proofs.Common.{◌∙◌, List, ℕ, Bor, map, ap, subst}
-use Rattle.std.proofs.lemmas.Result.{err_from_is_err_and}
+use Rattle.plan_base.proofs.Common.{◌∙◌, List, ℕ, Bor, map, ap, subst, err_from_is_err_and}
 use Rattle.mode_network.specs.NetworkLists.{NetworkLists}
-use Rattle.run_steps.specs.declared.outcome.FileRole.TheVariants.{Origins}
-use Rattle.run_steps.specs.declared.outcome.Outcome.TheVariants.{Done}
-use Rattle.run_steps.specs.InTurn.{AnswersFile}
-use Rattle.run_steps.specs.QueryLines.{query_lines}
-use Rattle.run_steps.specs.Scene.{scene}
-use Rattle.run_steps.specs.Sayings.{Ends, end_of}
+use Rattle.run_steps.specs.{declared.outcome.FileRole.TheVariants.Origins, Done, AnswersFile, query_lines, scene, Ends, end_of}
 use Rattle.run_steps.proofs.PieceLemmas.{stops_early}
-use Rattle.matrix_commands.specs.Rows.{AreRowsOf}
+use Rattle.matrix_commands.specs.{AreRowsOf}
 use Rattle.matrix_commands.proofs.tabulating.write_rows.Goals as goal
 
 pub returns-in_err-lines : goal.returns-in_err-lines

@@ -1,8 +1,7 @@
-use Rattle.std.proofs.Common.{inl, inr, sym, subst}
-use Rattle.std.proofs.lemmas.Result.{err_from_is_err_and}
-use Rattle.plan_base.specs.Shelves.{HasRead}
+use Rattle.plan_base.proofs.Common.{inl, inr, sym, subst, err_from_is_err_and}
+use Rattle.plan_base.specs.{HasRead}
 use Rattle.plan_base.proofs.MoreWritten.{stays_so}
-use Rattle.run_steps.specs.Sayings.{most_bytes}
+use Rattle.run_steps.specs.{most_bytes}
 use Rattle.matrix_commands.proofs.tabulating.write_table.Goals as goal
 
 pub returns-in_err-bytes : goal.returns-in_err-bytes

@@ -1,6 +1,5 @@
-use Rattle.std.proofs.Common.{ap, ◌∙◌, map}
-use Rattle.mode_expression.specs.Form.{form_of}
-use Rattle.mode_expression.specs.Grammar.{sequence}
+use Rattle.plan_base.proofs.Common.{ap, ◌∙◌, map}
+use Rattle.mode_expression.specs.{form_of, sequence}
 use Rattle.mode_expression.proofs.FormLemmas.{form_sequence}
 use Rattle.mode_expression.proofs.level.make_sequence.Goals as goal
 

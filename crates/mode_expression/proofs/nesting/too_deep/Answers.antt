@@ -1,6 +1,5 @@
-use Rattle.mode_expression.proofs.NestingLemmas.{counted_open, counted_close, counted_other, counted_all}
+use Rattle.mode_expression.proofs.{NestingLemmas.counted_open, NestingLemmas.counted_close, NestingLemmas.counted_other, NestingLemmas.counted_all, nesting.too_deep.Goals.then-c-eq40+else-opened-closed, nesting.too_deep.Goals.else-c-eq40+then-c-eq41, nesting.too_deep.Goals.else-c-eq40+else-c-eq41}
 use Rattle.mode_expression.proofs.nesting.too_deep.Goals as goal
-use Rattle.mode_expression.proofs.nesting.too_deep.Goals.{then-c-eq40+else-opened-closed, else-c-eq40+then-c-eq41, else-c-eq40+else-c-eq41}
 
 pub loop-at-preserved : goal.loop-at-preserved
 loop-at-preserved c =

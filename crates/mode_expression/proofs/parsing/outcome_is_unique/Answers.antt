@@ -1,5 +1,4 @@
-use Rattle.mode_expression.proofs.ExistsLemmas.{some_outcome}
-use Rattle.mode_expression.proofs.UniqueLemmas.{same_outcome}
+use Rattle.mode_expression.proofs.{ExistsLemmas.some_outcome, UniqueLemmas.same_outcome}
 use Rattle.mode_expression.proofs.parsing.outcome_is_unique.Goals as goal
 
 pub returns-clause-unique : goal.returns-clause-unique

@@ -1,6 +1,5 @@
-use Rattle.std.proofs.Common.{inr, arith}
-use Rattle.std.proofs.lemmas.Result.{err_from_is_err_and}
-use Rattle.mode_expression.specs.Form.{form_of}
+use Rattle.plan_base.proofs.Common.{inr, arith, err_from_is_err_and}
+use Rattle.mode_expression.specs.{form_of}
 use Rattle.mode_expression.proofs.ParseLemmas.{spells_of_reading, expressions_are_usable, fault_of_reading}
 use Rattle.mode_expression.proofs.parsing.parse.Goals as goal
 

@@ -1,8 +1,5 @@
-use Rattle.std.proofs.Common.{◌≡◌, ◌≤◌, ◌-◌, length, drop}
-use Rattle.mode_expression.specs.inside.Machine.{read_from}
-use Rattle.mode_expression.specs.Reading.{reading_of}
-use Rattle.mode_expression.specs.Tokens.{tokens_from}
-use Rattle.mode_expression.specs.inside.Views.{state_of_reader}
+use Rattle.plan_base.proofs.Common.{◌≡◌, ◌≤◌, ◌-◌, length, drop}
+use Rattle.mode_expression.specs.{inside.read_from, inside.state_of_reader, reading_of, tokens_from}
 use Rattle.mode_expression.proofs.parsing.read_tokens.Given as goal
 
 -- what the reader makes of the tokens that are left is what the text gives

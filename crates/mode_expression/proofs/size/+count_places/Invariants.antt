@@ -1,5 +1,5 @@
-use Rattle.std.proofs.Common.{◌≡◌, ◌^◌, min, sum_by, take}
-use Rattle.mode_expression.specs.Form.{form_of, places}
+use Rattle.plan_base.proofs.Common.{◌≡◌, ◌^◌, min, sum_by, take}
+use Rattle.mode_expression.specs.{form_of, places}
 use Rattle.mode_expression.proofs.size.+count_places.Given as goal
 
 abbrev pub invariant-loop-part : goal.invariant-loop-part

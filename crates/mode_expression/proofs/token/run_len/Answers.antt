@@ -1,7 +1,6 @@
-use Rattle.std.proofs.Common.{[], sym, ◌∙◌, arith}
-use Rattle.mode_expression.proofs.TokenLemmas.{run_begins, run_more, run_ends}
+use Rattle.plan_base.proofs.Common.{[], sym, ◌∙◌, arith}
+use Rattle.mode_expression.proofs.{TokenLemmas.run_begins, TokenLemmas.run_more, TokenLemmas.run_ends, token.run_len.Goals.then-loop-last-test+else-same_run, token.run_len.Goals.else-loop-last-test}
 use Rattle.mode_expression.proofs.token.run_len.Goals as goal
-use Rattle.mode_expression.proofs.token.run_len.Goals.{then-loop-last-test+else-same_run, else-loop-last-test}
 
 pub loop-last-init : goal.loop-last-init
 loop-last-init c = (c.requires.some, c.requires.begins, run_begins c.args.text.now c.requires.some c.requires.begins)

@@ -1,5 +1,5 @@
-use Rattle.std.proofs.Common.{length, ◌-◌, ℕ, ◌≡◌, ◌+◌, ◌<◌, ◌≢◌, take, drop, get_or}
-use Rattle.mode_expression.specs.Tokens.{lexemes}
+use Rattle.plan_base.proofs.Common.{length, ◌-◌, ℕ, ◌≡◌, ◌+◌, ◌<◌, ◌≢◌, take, drop, get_or}
+use Rattle.mode_expression.specs.{lexemes}
 use Rattle.mode_expression.proofs.TokenLemmas.{prefixed}
 use Rattle.mode_expression.proofs.token.run_len.Given as goal
 

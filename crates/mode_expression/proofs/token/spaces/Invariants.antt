@@ -1,5 +1,5 @@
-use Rattle.std.proofs.Common.{length, ◌-◌, ℕ, ◌≡◌, ◌+◌, ◌≤◌, drop}
-use Rattle.mode_expression.specs.Tokens.{lexemes}
+use Rattle.plan_base.proofs.Common.{length, ◌-◌, ℕ, ◌≡◌, ◌+◌, ◌≤◌, drop}
+use Rattle.mode_expression.specs.{lexemes}
 use Rattle.mode_expression.proofs.token.spaces.Given as goal
 
 -- the bytes before `count` are spaces

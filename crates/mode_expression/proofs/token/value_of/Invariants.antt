@@ -1,5 +1,5 @@
-use Rattle.std.proofs.Common.{◌≡◌, ◌≤◌, take}
-use Rattle.mode_expression.specs.Tokens.{decimal}
+use Rattle.plan_base.proofs.Common.{◌≡◌, ◌≤◌, take}
+use Rattle.mode_expression.specs.{decimal}
 use Rattle.mode_expression.proofs.token.value_of.Given as goal
 
 abbrev pub invariant-loop-c : goal.invariant-loop-c

@@ -1,8 +1,6 @@
-use Rattle.std.proofs.Common.{◌∙◌, subst, sym, arith}
-use Rattle.std.proofs.lemmas.List.{get_or_default}
-use Rattle.service_days.specs.DaysMeaning.{DaysMeaning}
-use Rattle.service_days.specs.Days.{AreDays, AreRisingDays}
-use Rattle.timetable_arcs.specs.Table.{AreBases}
+use Rattle.plan_base.proofs.Common.{◌∙◌, subst, sym, arith, get_or_default}
+use Rattle.service_days.specs.{DaysMeaning.DaysMeaning, AreDays, AreRisingDays}
+use Rattle.timetable_arcs.specs.{AreBases}
 use Rattle.mode_network.proofs.bases.bases.Goals as goal
 
 bases_of : (days : DaysMeaning) → AreDays days → AreRisingDays days → AreBases days.bases

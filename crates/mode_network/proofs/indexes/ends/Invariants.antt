@@ -1,5 +1,5 @@
-use Rattle.std.proofs.Common.{take}
-use Rattle.mode_network.specs.Indexes.{AreEndMarks}
+use Rattle.plan_base.proofs.Common.{take}
+use Rattle.mode_network.specs.{AreEndMarks}
 use Rattle.mode_network.proofs.indexes.ends.Given as goal
 
 abbrev pub invariant-loop-arc : goal.invariant-loop-arc

@@ -1,8 +1,5 @@
-use Rattle.std.proofs.Common.{◌≡◌, ℕ, ◌<◌, ◌≤◌, length}
-use Rattle.std.specs.Prelude.{slice_index_or}
-use Rattle.std.specs.List.{AllWithin}
-use Rattle.mode_network.specs.declared.indexes.NodeRow.{NodeRow}
-use Rattle.mode_network.specs.Indexes.{node_row}
+use Rattle.plan_base.proofs.Common.{◌≡◌, ℕ, ◌<◌, ◌≤◌, length, slice_index_or, AllWithin}
+use Rattle.mode_network.specs.{NodeRow, node_row}
 use Rattle.mode_network.proofs.indexes.rows.Given as goal
 
 abbrev pub invariant-loop-v : goal.invariant-loop-v

@@ -1,5 +1,4 @@
-use Rattle.std.proofs.Common.{◌<◌, ◌≤◌, ◌-◌, length}
-use Rattle.std.specs.List.{AllWithin}
+use Rattle.plan_base.proofs.Common.{◌<◌, ◌≤◌, ◌-◌, length, AllWithin}
 use Rattle.mode_network.proofs.indexes.skip_below.Given as goal
 
 abbrev pub invariant-loop-place : goal.invariant-loop-place

@@ -1,6 +1,5 @@
-use Rattle.std.proofs.Common.{rules, of_calls}
-use Rattle.std.proofs.lemmas.Fn.{always_returns_same}
-use Rattle.plan_base.specs.Modes.{number_of_mode}
+use Rattle.plan_base.proofs.Common.{rules, of_calls, always_returns_same}
+use Rattle.plan_base.specs.{number_of_mode}
 use Rattle.mode_network.proofs.LayerLemmas.{key_found, key_missing, rank_cmp}
 use Rattle.mode_network.proofs.layers.node_in.Goals as goal
 

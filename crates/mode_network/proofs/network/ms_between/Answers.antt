@@ -1,5 +1,4 @@
-use Rattle.std.proofs.Common.{rules, of_calls}
-use Rattle.std.proofs.lemmas.Fn.{always_returns_same}
+use Rattle.plan_base.proofs.Common.{rules, of_calls, always_returns_same}
 use Rattle.mode_network.proofs.FindLemmas.{ends_cmp, leads_at, none_leads}
 use Rattle.mode_network.proofs.network.ms_between.Goals as goal
 

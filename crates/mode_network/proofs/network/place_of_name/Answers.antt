@@ -1,6 +1,5 @@
-use Rattle.std.proofs.Common.{rules, of_calls}
-use Rattle.std.proofs.lemmas.Fn.{always_returns_same}
-use Rattle.mode_network.specs.Rules.{name_cmp}
+use Rattle.plan_base.proofs.Common.{rules, of_calls, always_returns_same}
+use Rattle.mode_network.specs.{name_cmp}
 use Rattle.mode_network.proofs.FindLemmas.{name_found, name_missing}
 use Rattle.mode_network.proofs.network.place_of_name.Goals as goal
 

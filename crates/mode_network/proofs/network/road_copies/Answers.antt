@@ -1,6 +1,5 @@
-use Rattle.std.proofs.Common.{rules, of_calls, int_lt, int_le}
-use Rattle.std.proofs.lemmas.Fn.{always_returns_same}
-use Rattle.mode_network.specs.declared.nodes.Node.{Node}
+use Rattle.plan_base.proofs.Common.{rules, of_calls, int_lt, int_le, always_returns_same}
+use Rattle.mode_network.specs.{Node}
 use Rattle.mode_network.proofs.CopyLemmas.{id_of, below_parted, within_parted, copies_found, copies_missing}
 use Rattle.mode_network.proofs.network.road_copies.Goals as goal
 

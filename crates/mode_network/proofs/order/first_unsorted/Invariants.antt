@@ -1,5 +1,5 @@
-use Rattle.std.proofs.Common.{◌≡◌, length, ◌+◌, ◌≤◌}
-use Rattle.mode_network.specs.Rules.{first_unsorted}
+use Rattle.plan_base.proofs.Common.{◌≡◌, length, ◌+◌, ◌≤◌}
+use Rattle.mode_network.specs.{first_unsorted}
 use Rattle.mode_network.proofs.order.first_unsorted.Given as goal
 
 abbrev pub invariant-loop-rest : goal.invariant-loop-rest

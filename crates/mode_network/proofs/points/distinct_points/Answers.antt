@@ -1,10 +1,6 @@
-use Rattle.std.proofs.Common.{arith, ◌≡◌, ◌∙◌, ◌<◌, ◌+◌, ◌∷◌, ◌++◌, [], take, length, sym, ap, subst}
-use Rattle.std.specs.Prelude.{Contains, IfSome}
-use Rattle.std.proofs.lemmas.List.Elements.{Contains-push}
-use Rattle.mode_network.specs.Copies.{road_points}
-use Rattle.mode_network.specs.Points.{HoldSame}
-use Rattle.mode_network.proofs.NearLemmas.{pushed, kept}
-use Rattle.mode_network.proofs.points.distinct_points.Goals.{then-not-is_same+in_ok-push, else-not-is_same}
+use Rattle.plan_base.proofs.Common.{arith, ◌≡◌, ◌∙◌, ◌<◌, ◌+◌, ◌∷◌, ◌++◌, [], take, length, sym, ap, subst, Contains, IfSome, Contains-push}
+use Rattle.mode_network.specs.{road_points, HoldSame}
+use Rattle.mode_network.proofs.{NearLemmas.pushed, NearLemmas.kept, points.distinct_points.Goals.then-not-is_same+in_ok-push, points.distinct_points.Goals.else-not-is_same}
 use Rattle.mode_network.proofs.points.distinct_points.Goals as goal
 
 pub loop-node-preserved : goal.loop-node-preserved

@@ -1,7 +1,5 @@
-use Rattle.std.proofs.Common.{take}
-use Rattle.std.specs.Prelude.{Contains, IfSome}
-use Rattle.mode_network.specs.Copies.{road_points}
-use Rattle.mode_network.specs.Points.{HoldSame}
+use Rattle.plan_base.proofs.Common.{take, Contains, IfSome}
+use Rattle.mode_network.specs.{road_points, HoldSame}
 use Rattle.mode_network.proofs.points.distinct_points.Given as goal
 
 -- the points of the road nodes so far, and the last of them

@@ -1,5 +1,4 @@
-use Rattle.std.proofs.Common.{rules, w64, SFits, to_z, ◌∙◌, ap, sym, Some}
-use Rattle.std.proofs.lemmas.Int.{to_z-of_z}
+use Rattle.plan_base.proofs.Common.{rules, w64, SFits, to_z, ◌∙◌, ap, sym, Some, to_z-of_z}
 use Rattle.mode_network.proofs.NearLemmas.{same_point}
 use Rattle.mode_network.proofs.points.is_same.Goals as goal
 

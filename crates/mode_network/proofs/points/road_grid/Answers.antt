@@ -1,8 +1,6 @@
-use Rattle.std.specs.Prelude.{List, Ok, Err, Result, IfOk}
-use Rattle.std.specs.List.Sorted.{IsPermutation}
-use Rattle.geo_length.specs.Nearest.{Point}
-use Rattle.mode_network.specs.Copies.{road_points}
-use Rattle.mode_network.specs.Points.{HoldSame}
+use Rattle.plan_base.proofs.Common.{List, Ok, Err, Result, IfOk, IsPermutation}
+use Rattle.geo_length.specs.{Point}
+use Rattle.mode_network.specs.{road_points, HoldSame}
 use Rattle.mode_network.proofs.NearLemmas.{permuted}
 use Rattle.mode_network.proofs.points.road_grid.Goals as goal
 

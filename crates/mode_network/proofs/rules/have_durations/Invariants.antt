@@ -1,5 +1,4 @@
-use Rattle.std.proofs.Common.{◌<◌, ◌^◌}
-use Rattle.std.specs.List.{AllWithin}
+use Rattle.plan_base.proofs.Common.{◌<◌, ◌^◌, AllWithin}
 use Rattle.mode_network.proofs.rules.have_durations.Given as goal
 
 abbrev pub invariant-loop-arc : goal.invariant-loop-arc

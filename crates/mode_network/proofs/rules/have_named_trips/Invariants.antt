@@ -1,7 +1,6 @@
-use Rattle.std.proofs.Common.{◌≡◌, true}
-use Rattle.std.specs.List.{AllWithin}
-use Rattle.plain_texts.specs.Names.{is_name}
-use Rattle.timetable_arcs.specs.Trips.{TripLists}
+use Rattle.plan_base.proofs.Common.{◌≡◌, true, AllWithin}
+use Rattle.plain_texts.specs.{is_name}
+use Rattle.timetable_arcs.specs.{TripLists}
 use Rattle.mode_network.proofs.rules.have_named_trips.Given as goal
 
 abbrev pub invariant-loop-trip : goal.invariant-loop-trip

@@ -1,6 +1,5 @@
-use Rattle.std.proofs.Common.{◌≡◌, true}
-use Rattle.std.specs.List.{AllWithin}
-use Rattle.plain_texts.specs.Names.{is_name}
+use Rattle.plan_base.proofs.Common.{◌≡◌, true, AllWithin}
+use Rattle.plain_texts.specs.{is_name}
 use Rattle.mode_network.proofs.rules.have_names.Given as goal
 
 abbrev pub invariant-loop-name : goal.invariant-loop-name

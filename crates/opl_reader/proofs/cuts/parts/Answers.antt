@@ -1,7 +1,5 @@
-use Rattle.std.proofs.Common.{rules}
-use Rattle.std.proofs.lemmas.Iterator.Consumers.{map_from_collect}
-use Rattle.std.proofs.lemmas.Iterator.Splits.{YieldsList-from_slice_split}
-use Rattle.opl_reader.specs.Cuts.{is_byte, at_commas}
+use Rattle.plan_base.proofs.Common.{rules, map_from_collect, YieldsList-from_slice_split}
+use Rattle.opl_reader.specs.{is_byte, at_commas}
 use Rattle.opl_reader.proofs.cuts.parts.Goals as goal
 
 pub returns : goal.returns

@@ -1,6 +1,5 @@
-use Rattle.std.proofs.Common.{◌≡◌, map}
-use Rattle.opl_reader.specs.Objects.{cut_way}
-use Rattle.opl_reader.specs.Gathered.{is_seen_placed}
+use Rattle.plan_base.proofs.Common.{◌≡◌, map}
+use Rattle.opl_reader.specs.{cut_way, is_seen_placed}
 use Rattle.opl_reader.proofs.cutting.cut_ways.Given as goal
 
 abbrev pub invariant-loop-way : goal.invariant-loop-way

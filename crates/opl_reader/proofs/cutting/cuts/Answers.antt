@@ -1,7 +1,5 @@
-use Rattle.std.proofs.Common.{rules, not}
-use Rattle.std.proofs.lemmas.Iterator.Consumers.{map_from_collect}
-use Rattle.std.proofs.lemmas.Iterator.Splits.{YieldsList-from_slice_split}
-use Rattle.opl_reader.specs.Gathered.{is_seen_placed}
+use Rattle.plan_base.proofs.Common.{rules, not, map_from_collect, YieldsList-from_slice_split}
+use Rattle.opl_reader.specs.{is_seen_placed}
 use Rattle.opl_reader.proofs.cutting.cuts.Goals as goal
 
 pub returns : goal.returns

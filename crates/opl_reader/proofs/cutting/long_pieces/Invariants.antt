@@ -1,4 +1,4 @@
-use Rattle.std.proofs.Common.{◌≡◌, ◌++◌, map, filter, length, nat_le, drop}
+use Rattle.plan_base.proofs.Common.{◌≡◌, ◌++◌, map, filter, length, nat_le, drop}
 use Rattle.opl_reader.proofs.cutting.long_pieces.Given as goal
 
 abbrev pub invariant-loop-piece : goal.invariant-loop-piece

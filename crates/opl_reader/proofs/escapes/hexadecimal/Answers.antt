@@ -1,8 +1,6 @@
-use Rattle.std.proofs.Common.{arith, sym, ◌∙◌, ◌&&◌, nat_lt, nat_le, length}
-use Rattle.opl_reader.specs.Escapes.{either_case_digit_of}
-use Rattle.opl_reader.specs.Escapes.{hexadecimal_scalar_at}
-use Rattle.opl_reader.proofs.Powers.{powers_up}
-use Rattle.opl_reader.proofs.DigitLemmas.{bad_digit}
+use Rattle.plan_base.proofs.Common.{arith, sym, ◌∙◌, ◌&&◌, nat_lt, nat_le, length}
+use Rattle.opl_reader.specs.{either_case_digit_of, hexadecimal_scalar_at}
+use Rattle.opl_reader.proofs.{Powers.powers_up, DigitLemmas.bad_digit}
 use Rattle.opl_reader.proofs.escapes.hexadecimal.Goals as goal
 
 pub overflow_mul-n : goal.overflow_mul-n

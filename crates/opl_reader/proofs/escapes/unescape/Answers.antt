@@ -1,4 +1,4 @@
-use Rattle.std.proofs.Common.{sym, ◌∙◌, ap, Some}
+use Rattle.plan_base.proofs.Common.{sym, ◌∙◌, ap, Some}
 use Rattle.opl_reader.proofs.EscapeLemmas.{step_done, unescaped_all, unescaped_open, unescaped_bad}
 use Rattle.opl_reader.proofs.escapes.unescape.Goals as goal
 

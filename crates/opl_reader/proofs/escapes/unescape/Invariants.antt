@@ -1,6 +1,5 @@
-use Rattle.std.proofs.Common.{◌≡◌, ◌++◌, length}
-use Rattle.std.specs.Prelude.{option_map}
-use Rattle.opl_reader.specs.Escapes.{unescaped}
+use Rattle.plan_base.proofs.Common.{◌≡◌, ◌++◌, length, option_map}
+use Rattle.opl_reader.specs.{unescaped}
 use Rattle.opl_reader.proofs.escapes.unescape.Given as goal
 
 abbrev pub invariant-loop-plain : goal.invariant-loop-plain

@@ -1,6 +1,4 @@
-use Rattle.std.proofs.Common.{◌≡◌, ◌++◌, ◌∷◌, [], ap, sym, ◌∙◌, Bool, true, false, not, Option, Some, None, is_some, refl}
-use Rattle.std.proofs.lemmas.Int.{to_z-of_z}
-use Rattle.std.specs.Ordering.{int_eq}
+use Rattle.plan_base.proofs.Common.{◌≡◌, ◌++◌, ◌∷◌, [], ap, sym, ◌∙◌, Bool, true, false, not, Option, Some, None, is_some, refl, to_z-of_z, int_eq}
 use Rattle.indexmap.proofs.CallerLemmas.{insert_entry-new}
 use Rattle.opl_reader.proofs.gathered.note_node.Goals as goal
 

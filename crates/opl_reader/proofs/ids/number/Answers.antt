@@ -1,8 +1,7 @@
-use Rattle.std.proofs.Common.{arith, sym, ◌∙◌, ◌&&◌, nat_lt, nat_le, length}
-use Rattle.plain_texts.specs.Digits.{digit_of}
-use Rattle.opl_reader.specs.Ids.{up_to_eighteen_digits_at}
-use Rattle.opl_reader.proofs.Powers.{powers_up}
-use Rattle.opl_reader.proofs.DigitLemmas.{bad_digit}
+use Rattle.plan_base.proofs.Common.{arith, sym, ◌∙◌, ◌&&◌, nat_lt, nat_le, length}
+use Rattle.plain_texts.specs.{digit_of}
+use Rattle.opl_reader.specs.{up_to_eighteen_digits_at}
+use Rattle.opl_reader.proofs.{Powers.powers_up, DigitLemmas.bad_digit}
 use Rattle.opl_reader.proofs.ids.number.Goals as goal
 
 pub overflow_mul-n : goal.overflow_mul-n

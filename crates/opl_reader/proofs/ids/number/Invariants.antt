@@ -1,6 +1,6 @@
-use Rattle.std.proofs.Common.{◌≡◌, ◌^◌, ◌<◌, take, fold, Some}
-use Rattle.plain_texts.specs.Digits.{more}
-use Rattle.opl_reader.specs.Ids.{digit_step}
+use Rattle.plan_base.proofs.Common.{◌≡◌, ◌^◌, ◌<◌, take, fold, Some}
+use Rattle.plain_texts.specs.{more}
+use Rattle.opl_reader.specs.{digit_step}
 use Rattle.opl_reader.proofs.ids.number.Given as goal
 
 abbrev pub invariant-loop-byte : goal.invariant-loop-byte

@@ -1,6 +1,5 @@
-use Rattle.std.proofs.Common.{◌≡◌, map, drop}
-use Rattle.std.specs.List.{list_all}
-use Rattle.opl_reader.specs.Lines.{is_field}
+use Rattle.plan_base.proofs.Common.{◌≡◌, map, drop, list_all}
+use Rattle.opl_reader.specs.{is_field}
 use Rattle.opl_reader.proofs.lines.are_fields.Given as goal
 
 abbrev pub invariant-loop-field : goal.invariant-loop-field

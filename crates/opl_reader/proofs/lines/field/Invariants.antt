@@ -1,5 +1,5 @@
-use Rattle.std.proofs.Common.{◌≡◌, ◌++◌, map, drop, option_map, option_to_list}
-use Rattle.opl_reader.specs.Lines.{values_of, at_most_one, field_of}
+use Rattle.plan_base.proofs.Common.{◌≡◌, ◌++◌, map, drop, option_map, option_to_list}
+use Rattle.opl_reader.specs.{values_of, at_most_one, field_of}
 use Rattle.opl_reader.proofs.lines.field.Given as goal
 
 abbrev pub invariant-loop-field : goal.invariant-loop-field

@@ -1,6 +1,5 @@
-use Rattle.std.proofs.Common.{◌≡◌, ◌++◌, map, drop, option_map}
-use Rattle.opl_reader.specs.Optional.{each}
-use Rattle.opl_reader.specs.References.{reference_at}
+use Rattle.plan_base.proofs.Common.{◌≡◌, ◌++◌, map, drop, option_map}
+use Rattle.opl_reader.specs.{each, reference_at}
 use Rattle.opl_reader.proofs.references.read_each.Given as goal
 
 abbrev pub invariant-loop-text : goal.invariant-loop-text

@@ -1,6 +1,5 @@
-use Rattle.std.proofs.Common.{◌≡◌, [], fold, map, drop, option_map}
-use Rattle.opl_reader.specs.Optional.{each}
-use Rattle.opl_reader.specs.Tags.{is_key, with_tag, tag_at}
+use Rattle.plan_base.proofs.Common.{◌≡◌, [], fold, map, drop, option_map}
+use Rattle.opl_reader.specs.{each, is_key, with_tag, tag_at}
 use Rattle.opl_reader.proofs.tags.read_each.Given as goal
 
 abbrev pub invariant-loop-text : goal.invariant-loop-text

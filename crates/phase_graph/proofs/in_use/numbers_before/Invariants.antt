@@ -1,5 +1,5 @@
-use Rattle.std.proofs.Common.{◌≡◌, map, take, false}
-use Rattle.phase_graph.specs.Arcs.{phase_node}
+use Rattle.plan_base.proofs.Common.{◌≡◌, map, take, false}
+use Rattle.phase_graph.specs.{phase_node}
 use Rattle.phase_graph.proofs.in_use.numbers_before.Given as goal
 
 abbrev pub invariant-loop-v : goal.invariant-loop-v

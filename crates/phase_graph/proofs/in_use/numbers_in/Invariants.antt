@@ -1,6 +1,5 @@
-use Rattle.std.proofs.Common.{◌≡◌, take}
-use Rattle.std.specs.List.{flat_map}
-use Rattle.phase_graph.specs.InUse.{target_numbers}
+use Rattle.plan_base.proofs.Common.{◌≡◌, take, flat_map}
+use Rattle.phase_graph.specs.{target_numbers}
 use Rattle.phase_graph.proofs.in_use.numbers_in.Given as goal
 
 abbrev pub invariant-loop-v : goal.invariant-loop-v

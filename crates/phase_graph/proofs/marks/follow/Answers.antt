@@ -1,11 +1,7 @@
-use Rattle.std.proofs.Common.{◌≡◌, ◌<◌, ◌∙◌, List, length, get_or, ap, arith}
-use Rattle.std.proofs.lemmas.List.{get_or_default, get_or-map, length-map}
-use Rattle.std.proofs.lemmas.Option.{slice_get-get_or}
-use Rattle.hierarchy.specs.declared.entry.Entry.{Entry}
-use Rattle.hierarchy.specs.declared.falls.Fall.{Fall}
-use Rattle.hierarchy.specs.Lookups.{fall_at, no_entry}
+use Rattle.plan_base.proofs.Common.{◌≡◌, ◌<◌, ◌∙◌, List, length, get_or, ap, arith, get_or_default, get_or-map, length-map, slice_get-get_or}
+use Rattle.hierarchy.specs.{Entry, Fall, fall_at, no_entry}
 use Rattle.hierarchy.proofs.FallLemmas.{into_node}
-use Rattle.phase_graph.specs.inside.Falls.{places_into}
+use Rattle.phase_graph.specs.inside.{places_into}
 use Rattle.phase_graph.proofs.MarkLemmas.{following_more, followed_all}
 use Rattle.phase_graph.proofs.marks.follow.Goals as goal
 

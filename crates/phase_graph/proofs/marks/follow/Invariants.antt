@@ -1,4 +1,4 @@
-use Rattle.phase_graph.specs.inside.Falls.{places_into}
+use Rattle.phase_graph.specs.inside.{places_into}
 use Rattle.phase_graph.proofs.MarkLemmas.{IsFollowing}
 use Rattle.phase_graph.proofs.marks.follow.Given as goal
 

@@ -1,5 +1,4 @@
-use Rattle.std.proofs.Common.{◌≡◌, ◌∙◌, get_or, arith}
-use Rattle.std.proofs.lemmas.List.{get_or_default}
+use Rattle.plan_base.proofs.Common.{◌≡◌, ◌∙◌, get_or, arith, get_or_default}
 use Rattle.phase_graph.proofs.MarkLemmas.{marked_more}
 use Rattle.phase_graph.proofs.marks.mark.Goals as goal
 

@@ -1,11 +1,5 @@
-use Rattle.std.proofs.Common.{◌≡◌, ℕ, ◌+◌, ◌<◌, ◌∙◌, nat_eq, Bool, true, false, length, get_or, refl, sym, ap, subst, arith}
-use Rattle.std.specs.Prelude.{Contains}
-use Rattle.std.proofs.lemmas.Bool.{eqb-true, eqb-false}
-use Rattle.std.proofs.lemmas.List.{get_or_default}
-use Rattle.std.proofs.lemmas.List.Elements.{All-contains}
-use Rattle.std.proofs.lemmas.List.Filters.{dedup_is}
-use Rattle.phase_graph.specs.Marks.{marks_in}
-use Rattle.phase_graph.specs.inside.Marking.{AreMarked, IsFollowed}
+use Rattle.plan_base.proofs.Common.{◌≡◌, ℕ, ◌+◌, ◌<◌, ◌∙◌, nat_eq, Bool, true, false, length, get_or, refl, sym, ap, subst, arith, Contains, eqb-true, eqb-false, get_or_default, All-contains, dedup_is}
+use Rattle.phase_graph.specs.{marks_in, inside.AreMarked, inside.IsFollowed}
 use Rattle.phase_graph.proofs.MarkLemmas.{extends_contains, still_followed, are_marks, marked_in_order, marked_targets, none_marked}
 use Rattle.phase_graph.proofs.marks.mark_nodes.Goals as goal
 

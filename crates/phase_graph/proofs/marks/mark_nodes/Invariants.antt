@@ -1,5 +1,5 @@
-use Rattle.std.specs.Prelude.{ℕ, ◌-◌, ◌<◌, All, Contains, slice_index_or}
-use Rattle.phase_graph.specs.inside.Marking.{IsMarking, IsFollowed}
+use Rattle.plan_base.proofs.Common.{ℕ, ◌-◌, ◌<◌, All, Contains, slice_index_or}
+use Rattle.phase_graph.specs.inside.{IsMarking, IsFollowed}
 use Rattle.phase_graph.proofs.marks.mark_nodes.Given as goal
 
 abbrev pub invariant-loop-next : goal.invariant-loop-next

@@ -1,7 +1,4 @@
-use Rattle.std.proofs.Common.{◌≡◌, ℕ, ◌+◌, ◌<◌, ◌∙◌, nat_eq, Bool, true, false, get_or, refl, sym, ap, subst, arith}
-use Rattle.std.specs.Prelude.{Contains}
-use Rattle.std.proofs.lemmas.Bool.{eqb-true, eqb-false}
-use Rattle.std.proofs.lemmas.List.{get_or_default}
+use Rattle.plan_base.proofs.Common.{◌≡◌, ℕ, ◌+◌, ◌<◌, ◌∙◌, nat_eq, Bool, true, false, get_or, refl, sym, ap, subst, arith, Contains, eqb-true, eqb-false, get_or_default}
 use Rattle.phase_graph.proofs.MarkLemmas.{all_or, extends_contains}
 use Rattle.phase_graph.proofs.marks.mark_targets.Goals as goal
 

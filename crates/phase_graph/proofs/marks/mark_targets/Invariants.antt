@@ -1,5 +1,5 @@
-use Rattle.std.specs.Prelude.{ℕ, ◌<◌, All, Contains, slice_index_or}
-use Rattle.phase_graph.specs.inside.Marking.{AreMarks}
+use Rattle.plan_base.proofs.Common.{ℕ, ◌<◌, All, Contains, slice_index_or}
+use Rattle.phase_graph.specs.inside.{AreMarks}
 use Rattle.phase_graph.proofs.marks.mark_targets.Given as goal
 
 abbrev pub invariant-loop-v : goal.invariant-loop-v

@@ -1,6 +1,5 @@
-use Rattle.std.proofs.Common.{◌≡◌, ◌∙◌, ◌+◌, ◌-◌, ◌<◌, length, drop, get_or, sym, ap, subst, arith}
-use Rattle.std.proofs.lemmas.List.{get_or-drop, length-drop, length-set}
-use Rattle.phase_graph.specs.PhaseArcs.{renumbered, FitsAnew}
+use Rattle.plan_base.proofs.Common.{◌≡◌, ◌∙◌, ◌+◌, ◌-◌, ◌<◌, length, drop, get_or, sym, ap, subst, arith, get_or-drop, length-drop, length-set}
+use Rattle.phase_graph.specs.{renumbered, FitsAnew}
 use Rattle.phase_graph.proofs.WayTies.{change_next, change_more}
 use Rattle.phase_graph.proofs.phases.renumber.Goals as goal
 

@@ -1,5 +1,5 @@
-use Rattle.std.proofs.Common.{◌≡◌, ◌≤◌, ◌++◌, length, drop}
-use Rattle.phase_graph.specs.PhaseArcs.{renumbered}
+use Rattle.plan_base.proofs.Common.{◌≡◌, ◌≤◌, ◌++◌, length, drop}
+use Rattle.phase_graph.specs.{renumbered}
 use Rattle.phase_graph.proofs.WayTies.{changed}
 use Rattle.phase_graph.proofs.phases.renumber.Given as goal
 

@@ -1,7 +1,5 @@
-use Rattle.std.proofs.Common.{ℕ, nat_le, ◌∙◌, ap, rules, of_calls}
-use Rattle.std.proofs.lemmas.Fn.{always_returns_same}
-use Rattle.timetable_arcs.specs.declared.rides.Board.{Board}
-use Rattle.timetable_arcs.specs.RideTables.{rides_end}
+use Rattle.plan_base.proofs.Common.{ℕ, nat_le, ◌∙◌, ap, rules, of_calls, always_returns_same}
+use Rattle.timetable_arcs.specs.{Board, rides_end}
 use Rattle.plain_graph.proofs.LetterTies.{past_found}
 use Rattle.plain_graph.proofs.plain.past_board.Goals as goal
 

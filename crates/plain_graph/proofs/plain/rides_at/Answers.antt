@@ -1,5 +1,5 @@
 use Rattle.timetable_arcs.proofs.TableLemmas.{rides_few}
-use Rattle.std.proofs.Common.{sym, subst, ◌<◌, ◌^◌}
+use Rattle.plan_base.proofs.Common.{sym, subst, ◌<◌, ◌^◌}
 use Rattle.plain_graph.proofs.plain.rides_at.Goals as goal
 
 pub returns-clause-few : goal.returns-clause-few

@@ -1,6 +1,5 @@
-use Rattle.std.proofs.Common.{◌≡◌, take}
-use Rattle.std.specs.List.{flat_map}
-use Rattle.plain_texts.specs.Escape.{escaped_byte}
+use Rattle.std.proofs.Common.{◌≡◌, take, flat_map}
+use Rattle.plain_texts.specs.{escaped_byte}
 use Rattle.plain_texts.proofs.escape.escaped.Given as goal
 
 abbrev pub invariant-loop-byte : goal.invariant-loop-byte

@@ -1,7 +1,6 @@
 use Rattle.std.proofs.Common.{length}
-use Rattle.plain_texts.specs.FixedDecimal.{IsFixed, fixed_decimal}
-use Rattle.plain_texts.proofs.FixedDecimal.{fixed_reads}
-use Rattle.plain_texts.proofs.Reading.{allowed_if_read}
+use Rattle.plain_texts.specs.{IsFixed, fixed_decimal}
+use Rattle.plain_texts.proofs.{FixedDecimal.fixed_reads, Reading.allowed_if_read}
 use Rattle.plain_texts.proofs.fixed.read_fixed.Goals as goal
 
 pub returns-clause-within : goal.returns-clause-within

@@ -1,5 +1,5 @@
 use Rattle.std.proofs.Common.{◌≡◌, ◌++◌, ◌∷◌, [], ◌%◌, arith, rules}
-use Rattle.plain_texts.specs.Hexadecimal.{glyph}
+use Rattle.plain_texts.specs.{glyph}
 use Rattle.plain_texts.proofs.Hexadecimal.{hexadecimal_none, hexadecimal_longer}
 use Rattle.plain_texts.proofs.hexadecimals.+push_hexadecimal.Goals as goal
 

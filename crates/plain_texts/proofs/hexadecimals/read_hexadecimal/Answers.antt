@@ -1,6 +1,5 @@
-use Rattle.plain_texts.specs.Hexadecimal.{IsHexadecimal, hexadecimal}
-use Rattle.plain_texts.proofs.Hexadecimal.{hexadecimal_reads}
-use Rattle.plain_texts.proofs.Reading.{allowed_if_read}
+use Rattle.plain_texts.specs.{IsHexadecimal, hexadecimal}
+use Rattle.plain_texts.proofs.{Hexadecimal.hexadecimal_reads, Reading.allowed_if_read}
 use Rattle.plain_texts.proofs.hexadecimals.read_hexadecimal.Goals as goal
 
 pub returns-clause-within : goal.returns-clause-within

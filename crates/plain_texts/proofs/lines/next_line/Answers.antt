@@ -1,5 +1,4 @@
-use Rattle.std.proofs.Common.{List, ℕ}
-use Rattle.std.specs.Borrow.{Bor}
+use Rattle.std.proofs.Common.{List, ℕ, Bor}
 use Rattle.plain_texts.proofs.Pieces.{next_line_exact}
 use Rattle.plain_texts.proofs.lines.next_line.Goals as goal
 

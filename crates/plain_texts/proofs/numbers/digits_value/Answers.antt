@@ -1,7 +1,6 @@
-use Rattle.std.proofs.Common.{◌≡◌, ◌<◌, ◌*◌, ◌+◌, ◌^◌, arith, get_or, rules}
-use Rattle.std.specs.Prelude.{None}
+use Rattle.std.proofs.Common.{◌≡◌, ◌<◌, ◌*◌, ◌+◌, ◌^◌, arith, get_or, rules, None}
 use Rattle.std.proofs.lemmas.Bool.Decides.{nat_tests}
-use Rattle.plain_texts.specs.Digits.{digit_of}
+use Rattle.plain_texts.specs.{digit_of}
 use Rattle.plain_texts.proofs.ShortNumbers.{value_stops, one_more_fits}
 use Rattle.plain_texts.proofs.numbers.digits_value.Goals as goal
 

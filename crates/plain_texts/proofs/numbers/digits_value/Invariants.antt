@@ -1,6 +1,5 @@
-use Rattle.std.proofs.Common.{◌≡◌, ◌^◌, ◌<◌, take}
-use Rattle.std.specs.Prelude.{Some}
-use Rattle.plain_texts.specs.Numbers.{value_at}
+use Rattle.std.proofs.Common.{◌≡◌, ◌^◌, ◌<◌, take, Some}
+use Rattle.plain_texts.specs.{value_at}
 use Rattle.plain_texts.proofs.numbers.digits_value.Given as goal
 
 -- the value of the digits so far, which is as short as they are

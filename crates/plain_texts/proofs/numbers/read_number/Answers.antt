@@ -1,7 +1,5 @@
-use Rattle.std.proofs.Common.{◌<◌}
-use Rattle.std.specs.Prelude.{decimal}
-use Rattle.plain_texts.proofs.Decimal.{number_reads}
-use Rattle.plain_texts.proofs.Reading.{allowed_if_read}
+use Rattle.std.proofs.Common.{◌<◌, decimal}
+use Rattle.plain_texts.proofs.{Decimal.number_reads, Reading.allowed_if_read}
 use Rattle.plain_texts.proofs.numbers.read_number.Goals as goal
 
 pub returns-clause-within : goal.returns-clause-within

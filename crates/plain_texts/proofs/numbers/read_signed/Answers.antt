@@ -1,8 +1,6 @@
-use Rattle.std.proofs.Common.{◌<◌, arith}
-use Rattle.std.specs.Prelude.{unsigned_abs}
+use Rattle.std.proofs.Common.{◌<◌, arith, unsigned_abs}
 use Rattle.std.specs.Fmt.{signed_decimal}
-use Rattle.plain_texts.proofs.Signed.{signed_reads}
-use Rattle.plain_texts.proofs.Reading.{allowed_if_read}
+use Rattle.plain_texts.proofs.{Signed.signed_reads, Reading.allowed_if_read}
 use Rattle.plain_texts.proofs.numbers.read_signed.Goals as goal
 
 pub returns-clause-within : goal.returns-clause-within

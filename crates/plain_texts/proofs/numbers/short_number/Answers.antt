@@ -1,9 +1,7 @@
-use Rattle.std.proofs.Common.{rules, ◌≡◌, arith, ◌∙◌}
-use Rattle.std.specs.Prelude.{Some, None}
-use Rattle.plain_texts.specs.Numbers.{value_at}
-use Rattle.plain_texts.proofs.ShortNumbers.{number_empty, number_long, number_padded, number_is, number_none, number_past}
+use Rattle.std.proofs.Common.{rules, ◌≡◌, arith, ◌∙◌, Some, None}
+use Rattle.plain_texts.specs.{value_at}
+use Rattle.plain_texts.proofs.{ShortNumbers.number_empty, ShortNumbers.number_long, ShortNumbers.number_padded, ShortNumbers.number_is, ShortNumbers.number_none, ShortNumbers.number_past, numbers.short_number.Goals.then-is_empty-via-then-is_empty, numbers.short_number.Goals.then-is_empty-via-else-is_empty+then-text-gt18, numbers.short_number.Goals.then-is_empty-via-else-is_empty+else-text-gt18+then-is_padded}
 use Rattle.plain_texts.proofs.numbers.short_number.Goals as goal
-use Rattle.plain_texts.proofs.numbers.short_number.Goals.{then-is_empty-via-then-is_empty, then-is_empty-via-else-is_empty+then-text-gt18, then-is_empty-via-else-is_empty+else-text-gt18+then-is_padded}
 
 pub returns-then-is_empty : goal.returns-then-is_empty
 returns-then-is_empty c = elim c.then-is_empty.branch [

@@ -1,10 +1,8 @@
-use Rattle.std.proofs.Common.{rules, ◌≡◌, ◌∷◌, ◌++◌, ◌+◌, [], map, get_or, drop, false, arith, ◌∙◌, subst}
-use Rattle.std.specs.List.{slice_range}
+use Rattle.std.proofs.Common.{rules, ◌≡◌, ◌∷◌, ◌++◌, ◌+◌, [], map, get_or, drop, false, arith, ◌∙◌, subst, slice_range}
 use Rattle.std.proofs.lemmas.Grind.{common_steps}
 use Rattle.plain_texts.specs.Lines as spec
-use Rattle.plain_texts.proofs.Pieces.{WordsSoFar, words_space, words_byte, words_end}
+use Rattle.plain_texts.proofs.{Pieces.WordsSoFar, Pieces.words_space, Pieces.words_byte, Pieces.words_end, words.words_into.Goals.then-byte-eq32+in_ok-push, words.words_into.Goals.else-byte-eq32}
 use Rattle.plain_texts.proofs.words.words_into.Goals as goal
-use Rattle.plain_texts.proofs.words.words_into.Goals.{then-byte-eq32+in_ok-push, else-byte-eq32}
 
 pub loop-at-preserved : goal.loop-at-preserved
 loop-at-preserved c = elim c.if-byte-eq32.branch [

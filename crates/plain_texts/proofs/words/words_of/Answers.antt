@@ -1,5 +1,4 @@
-use Rattle.std.proofs.Common.{List, ℕ}
-use Rattle.std.specs.Borrow.{Bor}
+use Rattle.std.proofs.Common.{List, ℕ, Bor}
 use Rattle.plain_texts.proofs.Spaced.{words_joined}
 use Rattle.plain_texts.proofs.words.words_of.Goals as goal
 

@@ -1,5 +1,4 @@
-use Rattle.std.proofs.Common.{sym, ap, ◌==◌}
-use Rattle.std.proofs.lemmas.Nat.Bits.{bit_at_above}
+use Rattle.plan_base.proofs.Common.{sym, ap, ◌==◌, bit_at_above}
 use Rattle.plan_base.proofs.days.has_bit.Goals as goal
 
 pub returns-else-at-lt128 : goal.returns-else-at-lt128

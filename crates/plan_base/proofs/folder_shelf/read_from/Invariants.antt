@@ -1,4 +1,4 @@
-use Rattle.std.specs.Io.KnownBytes.{Keeps}
+use Rattle.plan_base.proofs.Common.{Keeps}
 use Rattle.plan_base.proofs.folder_shelf.read_from.Given as goal
 
 -- a read that was interrupted read nothing

@@ -1,4 +1,4 @@
-use Rattle.std.proofs.Common.{rules}
+use Rattle.plan_base.proofs.Common.{rules}
 use Rattle.plan_base.proofs.MoreRead.{read_more}
 use Rattle.plan_base.proofs.reading.read_whole.Goals as goal
 

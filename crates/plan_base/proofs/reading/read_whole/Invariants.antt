@@ -1,5 +1,5 @@
-use Rattle.std.proofs.Common.{◌+◌, ◌-◌, ◌≤◌, length}
-use Rattle.plan_base.specs.Shelves.{IsLater, Told}
+use Rattle.plan_base.proofs.Common.{◌+◌, ◌-◌, ◌≤◌, length}
+use Rattle.plan_base.specs.{IsLater, Told}
 use Rattle.plan_base.proofs.MoreRead.{IsFrontOf}
 use Rattle.plan_base.proofs.reading.read_whole.Given as goal
 

@@ -1,4 +1,4 @@
-use Rattle.std.specs.Io.KnownBytes.{Keeps}
+use Rattle.plan_base.proofs.Common.{Keeps}
 use Rattle.plan_base.proofs.system_ends.write_to.Given as goal
 
 -- a write that was interrupted wrote nothing

@@ -1,4 +1,4 @@
-use Rattle.std.proofs.Common.{arith}
+use Rattle.plan_base.proofs.Common.{arith}
 use Rattle.plan_base.proofs.MoreWritten.{written_more, part_left, on_err}
 use Rattle.plan_base.proofs.writing.write_all.Goals as goal
 

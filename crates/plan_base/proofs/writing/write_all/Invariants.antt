@@ -1,4 +1,4 @@
-use Rattle.std.proofs.Common.{◌≤◌, length}
+use Rattle.plan_base.proofs.Common.{◌≤◌, length}
 use Rattle.plan_base.proofs.MoreWritten.{IsWrittenTo}
 use Rattle.plan_base.proofs.writing.write_all.Given as goal
 

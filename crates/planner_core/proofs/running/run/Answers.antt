@@ -1,5 +1,4 @@
-use Rattle.std.proofs.Common.{map}
-use Rattle.std.specs.Prelude.{string_bytes}
+use Rattle.plan_base.proofs.Common.{map, string_bytes}
 use Rattle.command_words.proofs.PlainForms.{plain_asks}
 use Rattle.planner_core.proofs.running.run.Goals as goal
 

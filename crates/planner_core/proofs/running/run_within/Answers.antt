@@ -1,10 +1,9 @@
-use Rattle.std.proofs.Common.{Err, ap, inl, refl, subst}
+use Rattle.plan_base.proofs.Common.{Err, ap, inl, refl, subst}
 use Rattle.plan_base.proofs.MoreWritten.{stays_so}
-use Rattle.command_words.specs.Requests.{Request}
-use Rattle.run_steps.specs.Scene.{scene}
-use Rattle.planner_core.specs.Commands.{says}
-use Rattle.planner_core.proofs.CompleteLemmas.{completes}
-use Rattle.planner_core.proofs.SizeLemmas.{asked_size}
+use Rattle.command_words.specs.{Request}
+use Rattle.run_steps.specs.{scene}
+use Rattle.planner_core.specs.{says}
+use Rattle.planner_core.proofs.{CompleteLemmas.completes, SizeLemmas.asked_size}
 use Rattle.planner_core.proofs.running.run_within.Goals as goal
 
 pub returns-in-Err-Refused-clause-outcome : goal.returns-in-Err-Refused-clause-outcome

@@ -1,5 +1,4 @@
-use Rattle.std.proofs.Common.{Bor}
-use Rattle.std.specs.Prelude.{option_map}
+use Rattle.plan_base.proofs.Common.{Bor, option_map}
 use Rattle.hierarchy.specs.declared.hierarchy.Hierarchy.{Hierarchy}
 use Rattle.planning.proofs.LimitLemmas.{within_labels}
 use Rattle.planning.proofs.blocks.block_within.Goals as goal

@@ -1,10 +1,8 @@
-use Rattle.std.proofs.Common.{rules, Option, Bor, subst, inl, refl}
-use Rattle.std.specs.Prelude.{option_map}
+use Rattle.plan_base.proofs.Common.{rules, Option, Bor, subst, inl, refl, option_map}
 use Rattle.hierarchy.specs.declared.hierarchy.Hierarchy.{Hierarchy}
-use Rattle.mode_network.specs.Journeys.{Route}
-use Rattle.journey.specs.Best.{asked_by}
-use Rattle.journey.specs.Queries.{IsRefused}
-use Rattle.planning.specs.Plans.{IsPlan}
+use Rattle.mode_network.specs.{Route}
+use Rattle.journey.specs.{asked_by, IsRefused}
+use Rattle.planning.specs.{IsPlan}
 use Rattle.planning.proofs.LimitLemmas.{refused_within}
 use Rattle.planning.proofs.blocks.body.Goals as goal
 

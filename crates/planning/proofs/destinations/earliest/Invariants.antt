@@ -1,5 +1,5 @@
-use Rattle.std.proofs.Common.{◌≡◌, take}
-use Rattle.planning.specs.Destinations.{earliest}
+use Rattle.plan_base.proofs.Common.{◌≡◌, take}
+use Rattle.planning.specs.{earliest}
 use Rattle.planning.proofs.destinations.earliest.Given as goal
 
 abbrev pub invariant-loop-time : goal.invariant-loop-time

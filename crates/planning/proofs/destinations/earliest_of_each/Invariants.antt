@@ -1,6 +1,5 @@
-use Rattle.std.proofs.Common.{◌≡◌, take}
-use Rattle.std.specs.Prelude.{map}
-use Rattle.planning.specs.Destinations.{earliest_in}
+use Rattle.plan_base.proofs.Common.{◌≡◌, take, map}
+use Rattle.planning.specs.{earliest_in}
 use Rattle.planning.proofs.destinations.earliest_of_each.Given as goal
 
 abbrev pub invariant-loop-part : goal.invariant-loop-part

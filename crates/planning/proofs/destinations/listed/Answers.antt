@@ -1,9 +1,7 @@
-use Rattle.std.proofs.Common.{◌+◌, ◌∙◌, Bor, Option, None, length, ap, subst}
-use Rattle.std.specs.Prelude.{option_map}
-use Rattle.std.proofs.lemmas.List.{get_or_default, length_push}
+use Rattle.plan_base.proofs.Common.{◌+◌, ◌∙◌, Bor, Option, None, length, ap, subst, option_map, get_or_default, length_push}
 use Rattle.hierarchy.specs.declared.hierarchy.Hierarchy.{Hierarchy}
-use Rattle.journey.specs.declared.query.Query.{Query}
-use Rattle.planning.specs.Destinations.{AddsDestination}
+use Rattle.journey.specs.{Query}
+use Rattle.planning.specs.{AddsDestination}
 use Rattle.planning.proofs.DestinationLemmas.{parts_more}
 use Rattle.planning.proofs.destinations.listed.Goals as goal
 

@@ -1,7 +1,6 @@
-use Rattle.std.proofs.Common.{◌≡◌, length, Bor}
-use Rattle.std.specs.Prelude.{option_map}
+use Rattle.plan_base.proofs.Common.{◌≡◌, length, Bor, option_map}
 use Rattle.hierarchy.specs.declared.hierarchy.Hierarchy.{Hierarchy}
-use Rattle.planning.specs.Destinations.{ArePartsFor}
+use Rattle.planning.specs.{ArePartsFor}
 use Rattle.planning.proofs.destinations.listed.Given as goal
 
 abbrev pub invariant-loop-query : goal.invariant-loop-query

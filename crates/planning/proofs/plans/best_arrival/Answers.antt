@@ -1,11 +1,9 @@
-use Rattle.std.proofs.Common.{Bor, subst}
-use Rattle.std.specs.Prelude.{option_map}
-use Rattle.product_search.specs.Questions.{QuestionMeaning, FindsArrival}
-use Rattle.automaton.specs.Collapsed.{collapsed}
-use Rattle.automaton.specs.Meanings.{position_meaning}
+use Rattle.plan_base.proofs.Common.{Bor, subst, option_map}
+use Rattle.product_search.specs.{QuestionMeaning, FindsArrival}
+use Rattle.automaton.specs.{collapsed, position_meaning}
 use Rattle.hierarchy.specs.declared.hierarchy.Hierarchy.{Hierarchy}
-use Rattle.phase_graph.specs.InUseGraph.{meaning_in_use}
-use Rattle.journey.specs.Best.{asked_by}
+use Rattle.phase_graph.specs.{meaning_in_use}
+use Rattle.journey.specs.{asked_by}
 use Rattle.planning.proofs.ArrivalLemmas.{best_arrival}
 use Rattle.planning.proofs.plans.best_arrival.Goals as goal
 

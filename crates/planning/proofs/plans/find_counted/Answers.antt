@@ -1,13 +1,10 @@
-use Rattle.std.proofs.Common.{◌≤◌, Bor, subst}
-use Rattle.std.specs.Prelude.{IfSome, option_map}
-use Rattle.product_search.specs.Answer.{last_time}
-use Rattle.product_search.specs.Questions.{QuestionMeaning, CountsLabels, FindsArrival, FindsWalk, HasMore}
-use Rattle.automaton.specs.Meanings.{position_meaning}
+use Rattle.plan_base.proofs.Common.{◌≤◌, Bor, subst, IfSome, option_map}
+use Rattle.product_search.specs.{last_time, QuestionMeaning, CountsLabels, FindsArrival, FindsWalk, HasMore}
+use Rattle.automaton.specs.{position_meaning}
 use Rattle.hierarchy.specs.declared.hierarchy.Hierarchy.{Hierarchy}
-use Rattle.phase_graph.specs.InUseGraph.{meaning_in_use}
-use Rattle.journey.specs.Best.{asked_by}
-use Rattle.planning.proofs.PlanLemmas.{walk_is_of, plan_for}
-use Rattle.planning.proofs.LimitLemmas.{at_most, has_count, has_more, told}
+use Rattle.phase_graph.specs.{meaning_in_use}
+use Rattle.journey.specs.{asked_by}
+use Rattle.planning.proofs.{PlanLemmas.walk_is_of, PlanLemmas.plan_for, LimitLemmas.at_most, LimitLemmas.has_count, LimitLemmas.has_more, LimitLemmas.told}
 use Rattle.planning.proofs.plans.find_counted.Goals as goal
 
 pub unpacked-requires : goal.unpacked-requires

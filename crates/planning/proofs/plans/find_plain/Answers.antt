@@ -1,9 +1,7 @@
-use Rattle.std.proofs.Common.{◌≤◌, None, subst}
-use Rattle.std.specs.Prelude.{IfSome}
-use Rattle.product_search.specs.Answer.{last_time}
-use Rattle.product_search.specs.Questions.{QuestionMeaning, FindsArrival, FindsWalk}
-use Rattle.automaton.specs.Meanings.{position_meaning}
-use Rattle.phase_graph.specs.InUseGraph.{meaning_in_use}
+use Rattle.plan_base.proofs.Common.{◌≤◌, None, subst, IfSome}
+use Rattle.product_search.specs.{last_time, QuestionMeaning, FindsArrival, FindsWalk}
+use Rattle.automaton.specs.{position_meaning}
+use Rattle.phase_graph.specs.{meaning_in_use}
 use Rattle.planning.proofs.PlanLemmas.{walk_is_of, plan_for}
 use Rattle.planning.proofs.plans.find_plain.Goals as goal
 

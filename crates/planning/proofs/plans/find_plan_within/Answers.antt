@@ -1,18 +1,12 @@
-use Rattle.std.proofs.Common.{ℕ, Option, Bor, refl, sym, ap, subst, arith}
-use Rattle.std.specs.Prelude.{option_map}
-use Rattle.product_search.specs.Questions.{QuestionMeaning, FindsArrival, FindsWalk, HasMore, ListsClosed, ListsLabels}
-use Rattle.product_search.specs.Answer.{IsByLastTime}
-use Rattle.product_search.specs.Closed.{IsClosed}
-use Rattle.automaton.specs.Collapsed.{collapsed}
-use Rattle.automaton.specs.Meanings.{position_meaning}
+use Rattle.plan_base.proofs.Common.{ℕ, Option, Bor, refl, sym, ap, subst, arith, option_map}
+use Rattle.product_search.specs.{QuestionMeaning, FindsArrival, FindsWalk, HasMore, ListsClosed, ListsLabels, IsByLastTime, IsClosed}
+use Rattle.automaton.specs.{collapsed, position_meaning}
 use Rattle.hierarchy.specs.declared.hierarchy.Hierarchy.{Hierarchy}
-use Rattle.phase_graph.specs.InUse.{starts_in, ends_in}
-use Rattle.phase_graph.specs.InUseGraph.{meaning_in_use}
-use Rattle.mode_network.specs.Journeys.{Route}
-use Rattle.journey.specs.Best.{asked_by}
-use Rattle.planning.specs.Plans.{IsPlan, IsCertifiable, route_of}
-use Rattle.planning.proofs.PlanLemmas.{walk_is_of, found_for}
-use Rattle.planning.proofs.LimitLemmas.{has_labels, has_more}
+use Rattle.phase_graph.specs.{starts_in, ends_in, meaning_in_use}
+use Rattle.mode_network.specs.{Route}
+use Rattle.journey.specs.{asked_by}
+use Rattle.planning.specs.{IsPlan, IsCertifiable, route_of}
+use Rattle.planning.proofs.{PlanLemmas.walk_is_of, PlanLemmas.found_for, LimitLemmas.has_labels, LimitLemmas.has_more}
 use Rattle.planning.proofs.plans.find_plan_within.Goals as goal
 
 pub unpacked-requires : goal.unpacked-requires

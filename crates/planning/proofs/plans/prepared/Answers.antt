@@ -1,10 +1,8 @@
-use Rattle.std.proofs.Common.{◌∙◌, ◌<◌, List, ℕ, sym, ap, subst, Bor}
-use Rattle.std.specs.Prelude.{option_map, All}
+use Rattle.plan_base.proofs.Common.{◌∙◌, ◌<◌, List, ℕ, sym, ap, subst, Bor, option_map, All}
 use Rattle.hierarchy.specs.declared.hierarchy.Hierarchy.{Hierarchy}
-use Rattle.automaton.specs.Meanings.{position_meaning}
-use Rattle.mode_expression.specs.Form.{form_of}
-use Rattle.phase_graph.specs.InUse.{IsInUse, starts_in, ends_in}
-use Rattle.phase_graph.specs.InUseGraph.{meaning_in_use}
+use Rattle.automaton.specs.{position_meaning}
+use Rattle.mode_expression.specs.{form_of}
+use Rattle.phase_graph.specs.{IsInUse, starts_in, ends_in, meaning_in_use}
 use Rattle.kept_automata.proofs.TextLemmas.{query_spells}
 use Rattle.planning.proofs.PlanLemmas.{starts_low}
 use Rattle.planning.proofs.plans.prepared.Goals as goal

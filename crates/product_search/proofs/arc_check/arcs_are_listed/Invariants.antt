@@ -1,6 +1,6 @@
-use Rattle.std.proofs.Common.{◌-◌}
-use Rattle.search_laws.specs.Firsts.{HoldsBelow}
-use Rattle.product_search.specs.Closed.{ArcIsListed}
+use Rattle.plan_base.proofs.Common.{◌-◌}
+use Rattle.search_laws.specs.{HoldsBelow}
+use Rattle.product_search.specs.{ArcIsListed}
 use Rattle.product_search.proofs.arc_check.arcs_are_listed.Given as goal
 
 abbrev pub invariant-arcs : goal.invariant-arcs

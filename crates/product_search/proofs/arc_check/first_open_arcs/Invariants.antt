@@ -1,5 +1,5 @@
-use Rattle.search_laws.specs.Firsts.{HoldsBelow}
-use Rattle.product_search.specs.Closed.{ArcsAreListedAt}
+use Rattle.search_laws.specs.{HoldsBelow}
+use Rattle.product_search.specs.{ArcsAreListedAt}
 use Rattle.product_search.proofs.arc_check.first_open_arcs.Given as goal
 
 abbrev pub invariant-loop-k : goal.invariant-loop-k

@@ -1,6 +1,6 @@
-use Rattle.std.specs.Prelude.{IsBitSet}
-use Rattle.search_laws.specs.Firsts.{HoldsBelow}
-use Rattle.product_search.specs.Closed.{IsListedBy}
+use Rattle.plan_base.proofs.Common.{IsBitSet}
+use Rattle.search_laws.specs.{HoldsBelow}
+use Rattle.product_search.specs.{IsListedBy}
 use Rattle.product_search.proofs.arc_check.moves_are_listed.Given as goal
 
 abbrev pub invariant-loop-j : goal.invariant-loop-j

@@ -1,5 +1,5 @@
-use Rattle.std.proofs.Common.{◌≡◌, map, take}
-use Rattle.product_search.specs.inside.Noting.{time_of}
+use Rattle.plan_base.proofs.Common.{◌≡◌, map, take}
+use Rattle.product_search.specs.inside.{time_of}
 use Rattle.product_search.proofs.arrivals.listed.Given as goal
 
 abbrev pub invariant-loop-node : goal.invariant-loop-node

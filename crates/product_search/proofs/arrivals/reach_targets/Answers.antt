@@ -1,11 +1,7 @@
-use Rattle.std.proofs.Common.{◌∙◌, length, ap, sym, subst, inl, inr, arith}
-use Rattle.std.proofs.lemmas.List.{length-replicate}
-use Rattle.product_search.specs.inside.Noting.{AreNoted, IsEndNotedBy}
-use Rattle.product_search.proofs.GivenLemmas.{none_given}
-use Rattle.product_search.proofs.StepLemmas.{searching_begins, takes_scanning, scanning_range, scanning_here, scanning_on, searching_over}
-use Rattle.product_search.proofs.NotingLemmas.{noted_begins, IsBounded, turn_now, all_noted}
+use Rattle.plan_base.proofs.Common.{◌∙◌, length, ap, sym, subst, inl, inr, arith, length-replicate}
+use Rattle.product_search.specs.inside.{AreNoted, IsEndNotedBy}
+use Rattle.product_search.proofs.{GivenLemmas.none_given, StepLemmas.searching_begins, StepLemmas.takes_scanning, StepLemmas.scanning_range, StepLemmas.scanning_here, StepLemmas.scanning_on, StepLemmas.searching_over, NotingLemmas.noted_begins, NotingLemmas.IsBounded, NotingLemmas.turn_now, NotingLemmas.all_noted, arrivals.reach_targets.Goals.then-note_end, arrivals.reach_targets.Goals.else-note_end}
 use Rattle.product_search.proofs.arrivals.reach_targets.Goals as goal
-use Rattle.product_search.proofs.arrivals.reach_targets.Goals.{then-note_end, else-note_end}
 
 pub search-init : goal.search-init
 search-init g c =

@@ -1,9 +1,5 @@
-use Rattle.std.proofs.Common.{◌≡◌, ◌+◌, ◌-◌, ◌^◌, length}
-use Rattle.product_search.specs.inside.Queued.{queue_len}
-use Rattle.product_search.specs.inside.Waiting.{ways}
-use Rattle.product_search.specs.inside.Exploring.{AreGivenReached}
-use Rattle.product_search.specs.inside.Searching.{IsSearching}
-use Rattle.product_search.specs.inside.Noting.{AreNoted, AreReached, IsEndNotedBy}
+use Rattle.plan_base.proofs.Common.{◌≡◌, ◌+◌, ◌-◌, ◌^◌, length}
+use Rattle.product_search.specs.inside.{queue_len, ways, AreGivenReached, IsSearching, AreNoted, AreReached, IsEndNotedBy}
 use Rattle.product_search.proofs.arrivals.reach_targets.Given as goal
 
 abbrev pub invariant-search : goal.invariant-search

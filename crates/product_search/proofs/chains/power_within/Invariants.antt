@@ -1,4 +1,4 @@
-use Rattle.std.proofs.Common.{◌<◌, ◌-◌, ◌^◌}
+use Rattle.plan_base.proofs.Common.{◌<◌, ◌-◌, ◌^◌}
 use Rattle.product_search.proofs.chains.power_within.Given as goal
 
 abbrev pub invariant-double : goal.invariant-double

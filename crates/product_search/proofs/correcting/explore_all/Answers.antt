@@ -1,8 +1,6 @@
-use Rattle.std.proofs.Common.{◌∙◌, ◌+◌}
-use Rattle.product_search.proofs.GivenLemmas.{none_given}
-use Rattle.product_search.proofs.StepLemmas.{searching_begins, scanning_range, turn_smaller, searching_over, keeps_same, way_still}
+use Rattle.plan_base.proofs.Common.{◌∙◌, ◌+◌}
+use Rattle.product_search.proofs.{GivenLemmas.none_given, StepLemmas.searching_begins, StepLemmas.scanning_range, StepLemmas.turn_smaller, StepLemmas.searching_over, StepLemmas.keeps_same, StepLemmas.way_still, LimitLemmas.more_before}
 use Rattle.product_search.proofs.EndLemmas as end
-use Rattle.product_search.proofs.LimitLemmas.{more_before}
 use Rattle.product_search.proofs.correcting.explore_all.Goals as goal
 
 pub search-init : goal.search-init

@@ -1,5 +1,5 @@
-use Rattle.search_laws.specs.Firsts.{HoldsBelow}
-use Rattle.product_search.specs.Closed.{IsNoEndAt}
+use Rattle.search_laws.specs.{HoldsBelow}
+use Rattle.product_search.specs.{IsNoEndAt}
 use Rattle.product_search.proofs.end_check.first_end.Given as goal
 
 abbrev pub invariant-loop-k : goal.invariant-loop-k

@@ -1,9 +1,6 @@
-use Rattle.std.proofs.Common.{◌≡◌, ◌+◌, [], refl, subst, arith}
-use Rattle.std.proofs.lemmas.List.Elements.{All-nil}
-use Rattle.product_search.specs.inside.Exploring.{Offers, WayIsReached, IsSuccessor}
-use Rattle.product_search.proofs.OfferLemmas.{arc_keeps, reached_keeps, offers_more}
-use Rattle.product_search.proofs.GivenLemmas.{visit_of, read_alone, given_keeps}
-use Rattle.product_search.proofs.TakenLemmas.{arcs_past_reached, arcs_reached}
+use Rattle.plan_base.proofs.Common.{◌≡◌, ◌+◌, [], refl, subst, arith, All-nil}
+use Rattle.product_search.specs.inside.{Offers, WayIsReached, IsSuccessor}
+use Rattle.product_search.proofs.{OfferLemmas.arc_keeps, OfferLemmas.reached_keeps, OfferLemmas.offers_more, GivenLemmas.visit_of, GivenLemmas.read_alone, GivenLemmas.given_keeps, TakenLemmas.arcs_past_reached, TakenLemmas.arcs_reached}
 use Rattle.product_search.proofs.explore.explore.Goals as goal
 
 pub explore_fresh-requires-clause-given : goal.explore_fresh-requires-clause-given

@@ -1,8 +1,6 @@
-use Rattle.std.proofs.Common.{◌≡◌, ◌+◌, arith}
-use Rattle.product_search.specs.inside.Exploring.{IsByWays, IsSuccessor}
-use Rattle.product_search.proofs.OfferLemmas.{reached_keeps, offers_weaker}
-use Rattle.product_search.proofs.GivenLemmas.{visit_of, read_alone, read_among, given_keeps, given_more}
-use Rattle.product_search.proofs.TakenLemmas.{ways_letters, ways_times, by_ways, arcs_past_reached}
+use Rattle.plan_base.proofs.Common.{◌≡◌, ◌+◌, arith}
+use Rattle.product_search.specs.inside.{IsByWays, IsSuccessor}
+use Rattle.product_search.proofs.{OfferLemmas.reached_keeps, OfferLemmas.offers_weaker, GivenLemmas.visit_of, GivenLemmas.read_alone, GivenLemmas.read_among, GivenLemmas.given_keeps, GivenLemmas.given_more, TakenLemmas.ways_letters, TakenLemmas.ways_times, TakenLemmas.by_ways, TakenLemmas.arcs_past_reached}
 use Rattle.product_search.proofs.explore.explore_fresh.Goals as goal
 
 pub explore_ways-requires-clause-letters : goal.explore_ways-requires-clause-letters

@@ -1,12 +1,7 @@
-use Rattle.std.proofs.Common.{Some, refl, ◌∙◌, arith}
-use Rattle.std.specs.Prelude.{All}
-use Rattle.std.proofs.lemmas.List.Elements.{All-contains}
-use Rattle.std.proofs.lemmas.Result.{on_ok_weaker}
-use Rattle.search_laws.specs.LabelLaws.{Follows}
-use Rattle.product_search.specs.inside.Exploring.{IsByLegs, IsByLegsIn, IsSuccessor, LegIsReached}
-use Rattle.product_search.proofs.LegLemmas.{by_legs, legs_reached}
-use Rattle.product_search.proofs.MoveLemmas.{targets_after}
-use Rattle.product_search.proofs.OfferLemmas.{offers_weaker}
+use Rattle.plan_base.proofs.Common.{Some, refl, ◌∙◌, arith, All, All-contains, on_ok_weaker}
+use Rattle.search_laws.specs.{Follows}
+use Rattle.product_search.specs.inside.{IsByLegs, IsByLegsIn, IsSuccessor, LegIsReached}
+use Rattle.product_search.proofs.{LegLemmas.by_legs, LegLemmas.legs_reached, MoveLemmas.targets_after, OfferLemmas.offers_weaker}
 use Rattle.product_search.proofs.explore.explore_steady.Goals as goal
 
 pub returns-in-None-clause-offers : goal.returns-in-None-clause-offers

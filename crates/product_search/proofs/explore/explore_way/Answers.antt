@@ -1,10 +1,6 @@
-use Rattle.std.proofs.Common.{ℕ, sym, ◌∙◌, ap, subst, arith}
-use Rattle.std.specs.Prelude.{Option}
-use Rattle.std.proofs.lemmas.List.Elements.{All-contains}
-use Rattle.std.proofs.lemmas.Result.{on_ok_weaker}
-use Rattle.search_laws.specs.LabelLaws.{Follows, HasMove}
-use Rattle.product_search.specs.declared.row.Reached.{Reached}
-use Rattle.product_search.specs.inside.Exploring.{IsByWay, IsGivenIn, way_by}
+use Rattle.plan_base.proofs.Common.{ℕ, sym, ◌∙◌, ap, subst, arith, Option, All-contains, on_ok_weaker}
+use Rattle.search_laws.specs.{Follows, HasMove}
+use Rattle.product_search.specs.{declared.row.Reached.Reached, inside.IsByWay, inside.IsGivenIn, inside.way_by}
 use Rattle.product_search.proofs.OfferLemmas.{offers_weaker, delay_is}
 use Rattle.product_search.proofs.explore.explore_way.Goals as goal
 

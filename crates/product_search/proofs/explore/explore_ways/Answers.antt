@@ -1,6 +1,6 @@
-use Rattle.std.proofs.Common.{◌<◌, length, None, get_or, subst, arith}
-use Rattle.search_laws.specs.declared.graph.Way.{Way}
-use Rattle.product_search.specs.inside.Exploring.{Offers, IsByWay, WayIsReached}
+use Rattle.plan_base.proofs.Common.{◌<◌, length, None, get_or, subst, arith}
+use Rattle.search_laws.specs.{Way}
+use Rattle.product_search.specs.inside.{Offers, IsByWay, WayIsReached}
 use Rattle.product_search.proofs.OfferLemmas.{offers_next, holds_next, way_keeps}
 use Rattle.product_search.proofs.explore.explore_ways.Goals as goal
 

@@ -1,6 +1,5 @@
-use Rattle.std.specs.List.{AllWithin}
-use Rattle.product_search.specs.inside.Waiting.{IsFrontier}
-use Rattle.product_search.specs.inside.Exploring.{Offers, IsByWays, WayIsReached}
+use Rattle.plan_base.proofs.Common.{AllWithin}
+use Rattle.product_search.specs.inside.{IsFrontier, Offers, IsByWays, WayIsReached}
 use Rattle.product_search.proofs.explore.explore_ways.Given as goal
 
 abbrev pub invariant-loop-way : goal.invariant-loop-way

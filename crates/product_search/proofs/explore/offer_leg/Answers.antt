@@ -1,7 +1,5 @@
-use Rattle.std.proofs.Common.{◌≡◌, ◌+◌, ◌∙◌, ap, arith}
-use Rattle.std.proofs.lemmas.Result.{on_ok_weaker}
-use Rattle.product_search.specs.declared.row.Reached.{Reached}
-use Rattle.product_search.specs.inside.Exploring.{IsByLeg, IsGiven, way_by}
+use Rattle.plan_base.proofs.Common.{◌≡◌, ◌+◌, ◌∙◌, ap, arith, on_ok_weaker}
+use Rattle.product_search.specs.{declared.row.Reached.Reached, inside.IsByLeg, inside.IsGiven, inside.way_by}
 use Rattle.product_search.proofs.OfferLemmas.{offers_weaker}
 use Rattle.product_search.proofs.explore.offer_leg.Goals as goal
 

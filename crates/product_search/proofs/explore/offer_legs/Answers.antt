@@ -1,8 +1,6 @@
-use Rattle.std.proofs.Common.{◌<◌, length, get_or, arith}
-use Rattle.std.proofs.lemmas.Option.{slice_get-get_or}
-use Rattle.product_search.specs.inside.Exploring.{IsByLeg, IsByLegs, LegIsReached}
-use Rattle.product_search.proofs.LegLemmas.{no_leg}
-use Rattle.product_search.proofs.OfferLemmas.{offers_more, offers_weaker, holds_next, leg_keeps}
+use Rattle.plan_base.proofs.Common.{◌<◌, length, get_or, arith, slice_get-get_or}
+use Rattle.product_search.specs.inside.{IsByLeg, IsByLegs, LegIsReached}
+use Rattle.product_search.proofs.{LegLemmas.no_leg, OfferLemmas.offers_more, OfferLemmas.offers_weaker, OfferLemmas.holds_next, OfferLemmas.leg_keeps}
 use Rattle.product_search.proofs.explore.offer_legs.Goals as goal
 
 pub loop-i-preserved : goal.loop-i-preserved

@@ -1,6 +1,5 @@
-use Rattle.std.specs.List.{AllWithin}
-use Rattle.product_search.specs.inside.Waiting.{IsFrontier}
-use Rattle.product_search.specs.inside.Exploring.{Offers, IsByLegs, LegIsReached}
+use Rattle.plan_base.proofs.Common.{AllWithin}
+use Rattle.product_search.specs.inside.{IsFrontier, Offers, IsByLegs, LegIsReached}
 use Rattle.product_search.proofs.explore.offer_legs.Given as goal
 
 abbrev pub invariant-loop-i : goal.invariant-loop-i

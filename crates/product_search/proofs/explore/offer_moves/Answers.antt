@@ -1,7 +1,5 @@
-use Rattle.std.proofs.Common.{◌≡◌, ℕ, ◌<◌, ◌≤◌, length, get_or, subst, arith}
-use Rattle.product_search.specs.declared.frontier.Frontier.{Frontier}
-use Rattle.product_search.specs.inside.Waiting.{delay_at}
-use Rattle.product_search.specs.inside.Exploring.{IsGiven, IsReachedIfWanted}
+use Rattle.plan_base.proofs.Common.{◌≡◌, ℕ, ◌<◌, ◌≤◌, length, get_or, subst, arith}
+use Rattle.product_search.specs.{declared.frontier.Frontier.Frontier, inside.delay_at, inside.IsGiven, inside.IsReachedIfWanted}
 use Rattle.product_search.proofs.OfferLemmas.{offers_next, holds_next, if_wanted_keeps}
 use Rattle.product_search.proofs.explore.offer_moves.Goals as goal
 

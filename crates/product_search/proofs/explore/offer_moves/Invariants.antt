@@ -1,7 +1,5 @@
-use Rattle.std.proofs.Common.{◌≡◌, ℕ, ◌≤◌}
-use Rattle.std.specs.List.{AllWithin}
-use Rattle.product_search.specs.inside.Waiting.{IsFrontier, delay_at}
-use Rattle.product_search.specs.inside.Exploring.{Offers, IsGivenIn, IsReachedIfWanted}
+use Rattle.plan_base.proofs.Common.{◌≡◌, ℕ, ◌≤◌, AllWithin}
+use Rattle.product_search.specs.inside.{IsFrontier, delay_at, Offers, IsGivenIn, IsReachedIfWanted}
 use Rattle.product_search.proofs.explore.offer_moves.Given as goal
 
 abbrev pub invariant-loop-next : goal.invariant-loop-next

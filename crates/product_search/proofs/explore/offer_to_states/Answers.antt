@@ -1,6 +1,5 @@
-use Rattle.std.proofs.Common.{◌<◌, length, get_or, arith}
-use Rattle.std.specs.Prelude.{All}
-use Rattle.product_search.specs.inside.Exploring.{IsByLegs, LegIsReached}
+use Rattle.plan_base.proofs.Common.{◌<◌, length, get_or, arith, All}
+use Rattle.product_search.specs.inside.{IsByLegs, LegIsReached}
 use Rattle.product_search.proofs.OfferLemmas.{offers_next, holds_next, leg_keeps}
 use Rattle.product_search.proofs.explore.offer_to_states.Goals as goal
 

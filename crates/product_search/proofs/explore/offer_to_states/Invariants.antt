@@ -1,7 +1,5 @@
-use Rattle.std.specs.Prelude.{All}
-use Rattle.std.specs.List.{AllWithin}
-use Rattle.product_search.specs.inside.Waiting.{IsFrontier}
-use Rattle.product_search.specs.inside.Exploring.{Offers, IsByLegsIn, LegIsReached}
+use Rattle.plan_base.proofs.Common.{All, AllWithin}
+use Rattle.product_search.specs.inside.{IsFrontier, Offers, IsByLegsIn, LegIsReached}
 use Rattle.product_search.proofs.explore.offer_to_states.Given as goal
 
 abbrev pub invariant-loop-next : goal.invariant-loop-next

@@ -1,6 +1,4 @@
-use Rattle.std.proofs.Common.{get_or, sym, ◌∙◌, ap, arith}
-use Rattle.std.specs.Prelude.{slice_index}
-use Rattle.std.proofs.lemmas.Option.{slice_get-get_or}
+use Rattle.plan_base.proofs.Common.{get_or, sym, ◌∙◌, ap, arith, slice_index, slice_get-get_or}
 use Rattle.product_search.specs.declared.row.Row.{Row}
 use Rattle.product_search.proofs.FrontierLemmas.{behind_next, behind_all}
 use Rattle.product_search.proofs.frontier.cleared.Goals as goal

@@ -1,4 +1,4 @@
-use Rattle.product_search.specs.inside.Waiting.{HasChainsFrom}
+use Rattle.product_search.specs.inside.{HasChainsFrom}
 use Rattle.product_search.proofs.frontier.cleared.Given as goal
 
 abbrev pub invariant-loop-row : goal.invariant-loop-row

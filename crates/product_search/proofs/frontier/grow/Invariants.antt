@@ -1,5 +1,4 @@
-use Rattle.std.proofs.Common.{◌≡◌, ℕ, ◌+◌, ◌-◌, slice_index}
-use Rattle.std.specs.Vec.{vec_len}
+use Rattle.plan_base.proofs.Common.{◌≡◌, ℕ, ◌+◌, ◌-◌, slice_index, vec_len}
 use Rattle.product_search.proofs.frontier.grow.Given as goal
 
 abbrev pub invariant-grow : goal.invariant-grow

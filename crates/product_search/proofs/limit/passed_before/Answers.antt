@@ -1,6 +1,5 @@
-use Rattle.std.proofs.Common.{◌≡◌, ◌<◌, Some, subst, arith}
-use Rattle.std.proofs.lemmas.Option.{IfSome_then}
-use Rattle.product_search.specs.inside.Searching.{HasMoreBefore}
+use Rattle.plan_base.proofs.Common.{◌≡◌, ◌<◌, Some, subst, arith, IfSome_then}
+use Rattle.product_search.specs.inside.{HasMoreBefore}
 use Rattle.product_search.proofs.limit.passed_before.Goals as goal
 
 pub returns : goal.returns

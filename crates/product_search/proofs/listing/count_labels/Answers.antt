@@ -1,8 +1,5 @@
-use Rattle.std.proofs.Common.{◌+◌, nat_lt, length, get_or, ◌∙◌, ap, arith}
-use Rattle.product_search.specs.declared.row.Row.{Row}
-use Rattle.product_search.specs.Listed.{label_of}
-use Rattle.product_search.specs.inside.Waiting.{rows}
-use Rattle.product_search.specs.inside.Searching.{label_of_row}
+use Rattle.plan_base.proofs.Common.{◌+◌, nat_lt, length, get_or, ◌∙◌, ap, arith}
+use Rattle.product_search.specs.{declared.row.Row.Row, label_of, inside.rows, inside.label_of_row}
 use Rattle.product_search.proofs.ListingLemmas.{counts_more, gives_all, one_if, one_at_most, few_so_far}
 use Rattle.product_search.proofs.listing.count_labels.Goals as goal
 

@@ -1,6 +1,5 @@
-use Rattle.std.proofs.Common.{◌≡◌, length, filter_map, take}
-use Rattle.product_search.specs.inside.Waiting.{rows}
-use Rattle.product_search.specs.inside.Searching.{label_of_row}
+use Rattle.plan_base.proofs.Common.{◌≡◌, length, filter_map, take}
+use Rattle.product_search.specs.inside.{rows, label_of_row}
 use Rattle.product_search.proofs.listing.count_labels.Given as goal
 
 abbrev pub invariant-loop-row : goal.invariant-loop-row

@@ -1,7 +1,5 @@
-use Rattle.std.proofs.Common.{◌++◌, take, filter_map, ◌∙◌, ap, sym}
-use Rattle.std.specs.Prelude.{option_to_list}
-use Rattle.product_search.specs.inside.Waiting.{rows}
-use Rattle.product_search.specs.inside.Searching.{label_of_row}
+use Rattle.plan_base.proofs.Common.{◌++◌, take, filter_map, ◌∙◌, ap, sym, option_to_list}
+use Rattle.product_search.specs.inside.{rows, label_of_row}
 use Rattle.product_search.proofs.ListingLemmas.{gives_more, gives_all}
 use Rattle.product_search.proofs.listing.labels_before.Goals as goal
 

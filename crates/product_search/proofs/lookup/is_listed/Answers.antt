@@ -1,7 +1,5 @@
-use Rattle.std.proofs.Common.{◌+◌, ◌-◌, ◌/◌, ◌<◌, length, leb, slice_index_or, sym, arith}
-use Rattle.std.proofs.lemmas.Bool.{leb-true, le-leb}
-use Rattle.std.proofs.lemmas.List.{get_or_default}
-use Rattle.product_search.specs.Listed.{label_of}
+use Rattle.plan_base.proofs.Common.{◌+◌, ◌-◌, ◌/◌, ◌<◌, length, leb, slice_index_or, sym, arith, leb-true, le-leb, get_or_default}
+use Rattle.product_search.specs.{label_of}
 use Rattle.product_search.proofs.CheckLemmas.{below_up_to, above_from, found_is}
 use Rattle.product_search.proofs.lookup.is_listed.Goals as goal
 

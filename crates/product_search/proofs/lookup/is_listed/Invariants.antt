@@ -1,6 +1,5 @@
-use Rattle.std.proofs.Common.{◌≡◌, ℕ, ◌-◌, ◌<◌, ◌≤◌, length, slice_index_or, Less, Greater}
-use Rattle.product_search.specs.declared.label.Label.{Label}
-use Rattle.product_search.specs.Listed.{label_of, label_cmp}
+use Rattle.plan_base.proofs.Common.{◌≡◌, ℕ, ◌-◌, ◌<◌, ◌≤◌, length, slice_index_or, Less, Greater}
+use Rattle.product_search.specs.{Label, label_of, label_cmp}
 use Rattle.product_search.proofs.lookup.is_listed.Given as goal
 
 abbrev pub invariant-loop-low : goal.invariant-loop-low

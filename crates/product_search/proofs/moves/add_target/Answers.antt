@@ -1,9 +1,6 @@
-use Rattle.std.proofs.Common.{◌<◌, ◌++◌, ◌∷◌, [], List, ℕ, length, ◌∙◌, ap, arith}
-use Rattle.std.specs.Prelude.{slice_set}
-use Rattle.std.proofs.lemmas.List.{get_or_default}
-use Rattle.product_search.proofs.MoveLemmas.{with_none, with_more, with_same, with_all}
+use Rattle.plan_base.proofs.Common.{◌<◌, ◌++◌, ◌∷◌, [], List, ℕ, length, ◌∙◌, ap, arith, slice_set, get_or_default}
+use Rattle.product_search.proofs.{MoveLemmas.with_none, MoveLemmas.with_more, MoveLemmas.with_same, MoveLemmas.with_all, moves.add_target.Goals.then-has_letter+in_ok-push, moves.add_target.Goals.else-has_letter}
 use Rattle.product_search.proofs.moves.add_target.Goals as goal
-use Rattle.product_search.proofs.moves.add_target.Goals.{then-has_letter+in_ok-push, else-has_letter}
 
 pub loop-letter-init : goal.loop-letter-init
 loop-letter-init c = with_none c.args.step c.args.targets.now.items

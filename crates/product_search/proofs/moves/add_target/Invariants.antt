@@ -1,4 +1,4 @@
-use Rattle.product_search.specs.inside.MoveTables.{AreTargetsWith}
+use Rattle.product_search.specs.inside.{AreTargetsWith}
 use Rattle.product_search.proofs.moves.add_target.Given as goal
 
 abbrev pub invariant-loop-letter : goal.invariant-loop-letter

@@ -1,4 +1,4 @@
-use Rattle.product_search.specs.inside.MoveTables.{HasLettersBelow}
+use Rattle.product_search.specs.inside.{HasLettersBelow}
 use Rattle.product_search.proofs.moves.letters_after.Given as goal
 
 abbrev pub invariant-loop-j : goal.invariant-loop-j

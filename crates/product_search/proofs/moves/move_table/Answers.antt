@@ -1,5 +1,5 @@
-use Rattle.std.proofs.Common.{◌∷◌, [], length-append, sym, subst, arith}
-use Rattle.product_search.specs.inside.MoveTables.{AreMoves}
+use Rattle.plan_base.proofs.Common.{◌∷◌, [], length-append, sym, subst, arith}
+use Rattle.product_search.specs.inside.{AreMoves}
 use Rattle.product_search.proofs.MoveLemmas.{each_pushed}
 use Rattle.product_search.proofs.moves.move_table.Goals as goal
 

@@ -1,7 +1,5 @@
-use Rattle.std.proofs.Common.{◌≡◌, ℕ, ◌<◌, length}
-use Rattle.std.specs.Prelude.{slice_index_or}
-use Rattle.product_search.specs.declared.moves.StateMoves.{StateMoves}
-use Rattle.product_search.specs.inside.MoveTables.{AreMoves}
+use Rattle.plan_base.proofs.Common.{◌≡◌, ℕ, ◌<◌, length, slice_index_or}
+use Rattle.product_search.specs.{declared.moves.StateMoves.StateMoves, inside.AreMoves}
 use Rattle.product_search.proofs.moves.move_table.Given as goal
 
 abbrev pub invariant-loop-state : goal.invariant-loop-state

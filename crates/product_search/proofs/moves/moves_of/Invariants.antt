@@ -1,4 +1,4 @@
-use Rattle.product_search.specs.inside.MoveTables.{AreMovesBelow}
+use Rattle.product_search.specs.inside.{AreMovesBelow}
 use Rattle.product_search.proofs.moves.moves_of.Given as goal
 
 abbrev pub invariant-loop-place : goal.invariant-loop-place

@@ -1,5 +1,5 @@
-use Rattle.std.proofs.Common.{length, below_more}
-use Rattle.product_search.specs.Closed.{IsInOrderAt}
+use Rattle.plan_base.proofs.Common.{length, below_more}
+use Rattle.product_search.specs.{IsInOrderAt}
 use Rattle.search_laws.proofs.FirstLemmas.{fails_here}
 use Rattle.product_search.proofs.order_check.first_out_of_order.Goals as goal
 

@@ -1,5 +1,5 @@
-use Rattle.search_laws.specs.Firsts.{HoldsBelow}
-use Rattle.product_search.specs.Closed.{IsInOrderAt}
+use Rattle.search_laws.specs.{HoldsBelow}
+use Rattle.product_search.specs.{IsInOrderAt}
 use Rattle.product_search.proofs.order_check.first_out_of_order.Given as goal
 
 abbrev pub invariant-loop-k : goal.invariant-loop-k

@@ -1,7 +1,5 @@
-use Rattle.std.proofs.Common.{◌∙◌, ◌≡◌, [], inl, inr, sym, subst, set, arith}
-use Rattle.std.proofs.lemmas.Bool.{cases_lt, cases_eq}
-use Rattle.std.proofs.lemmas.List.{length-set}
-use Rattle.product_search.specs.inside.Queued.{bucket_of}
+use Rattle.plan_base.proofs.Common.{◌∙◌, ◌≡◌, [], inl, inr, sym, subst, set, arith, cases_lt, cases_eq, length-set}
+use Rattle.product_search.specs.inside.{bucket_of}
 use Rattle.product_search.proofs.QueueLemmas.{bucket-set_same, bucket-set_other, bucket_past}
 use Rattle.product_search.proofs.queue.clear_all.Goals as goal
 

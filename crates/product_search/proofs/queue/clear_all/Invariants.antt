@@ -1,5 +1,5 @@
-use Rattle.std.proofs.Common.{◌≡◌, ◌<◌, ℕ, [], length}
-use Rattle.product_search.specs.inside.Queued.{bucket_of}
+use Rattle.plan_base.proofs.Common.{◌≡◌, ◌<◌, ℕ, [], length}
+use Rattle.product_search.specs.inside.{bucket_of}
 use Rattle.product_search.proofs.queue.clear_all.Given as goal
 
 abbrev pub invariant-loop-i : goal.invariant-loop-i

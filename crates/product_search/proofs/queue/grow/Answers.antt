@@ -1,4 +1,4 @@
-use Rattle.std.proofs.Common.{◌∙◌, arith}
+use Rattle.plan_base.proofs.Common.{◌∙◌, arith}
 use Rattle.product_search.proofs.QueueLemmas.{bucket-push, bucketed-push}
 use Rattle.product_search.proofs.queue.grow.Goals as goal
 

@@ -1,5 +1,5 @@
-use Rattle.std.proofs.Common.{◌≡◌, ◌+◌, ◌-◌, ◌≤◌, ◌^◌, ℕ, length}
-use Rattle.product_search.specs.inside.Queued.{bucket_of, bucketed_len}
+use Rattle.plan_base.proofs.Common.{◌≡◌, ◌+◌, ◌-◌, ◌≤◌, ◌^◌, ℕ, length}
+use Rattle.product_search.specs.inside.{bucket_of, bucketed_len}
 use Rattle.product_search.proofs.queue.grow.Given as goal
 
 abbrev pub invariant-grow : goal.invariant-grow

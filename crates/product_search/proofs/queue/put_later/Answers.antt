@@ -1,5 +1,4 @@
-use Rattle.std.proofs.Common.{◌∙◌, ◌++◌, ap}
-use Rattle.std.specs.Option.{option_to_list}
+use Rattle.plan_base.proofs.Common.{◌∙◌, ◌++◌, ap, option_to_list}
 use Rattle.product_search.proofs.QueueLemmas.{puts_one}
 use Rattle.product_search.proofs.queue.put_later.Goals as goal
 

@@ -1,5 +1,5 @@
-use Rattle.std.proofs.Common.{length}
-use Rattle.product_search.specs.inside.Queued.{PutsLater}
+use Rattle.plan_base.proofs.Common.{length}
+use Rattle.product_search.specs.inside.{PutsLater}
 use Rattle.product_search.proofs.queue.put_later.Given as goal
 
 abbrev pub invariant-items : goal.invariant-items

@@ -1,6 +1,5 @@
-use Rattle.std.proofs.Common.{length, refl, arith}
-use Rattle.std.proofs.lemmas.Option.{slice_get_read}
-use Rattle.product_search.specs.inside.Waiting.{rows, ways}
+use Rattle.plan_base.proofs.Common.{length, refl, arith, slice_get_read}
+use Rattle.product_search.specs.inside.{rows, ways}
 use Rattle.product_search.proofs.TrailLemmas.{back_begins, back_on, back_ends, way_to_within, row_within, parent_within, parent_falls}
 use Rattle.product_search.proofs.retrace.retrace.Goals as goal
 

@@ -1,4 +1,4 @@
-use Rattle.product_search.specs.inside.Trail.{IsBackTo}
+use Rattle.product_search.specs.inside.{IsBackTo}
 use Rattle.product_search.proofs.retrace.retrace.Given as goal
 
 abbrev pub invariant-back : goal.invariant-back

@@ -1,5 +1,4 @@
-use Rattle.product_search.proofs.EndLemmas.{arrives, ends_with}
-use Rattle.product_search.proofs.TrailLemmas.{has_parents, link_of, walk_for, arrival_in_time, walk_soon}
+use Rattle.product_search.proofs.{EndLemmas.arrives, EndLemmas.ends_with, TrailLemmas.has_parents, TrailLemmas.link_of, TrailLemmas.walk_for, TrailLemmas.arrival_in_time, TrailLemmas.walk_soon}
 use Rattle.product_search.proofs.searching.answer.Goals as goal
 
 pub walk_to-requires-clause-parents : goal.walk_to-requires-clause-parents

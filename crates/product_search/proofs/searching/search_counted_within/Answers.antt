@@ -1,6 +1,5 @@
-use Rattle.std.proofs.Common.{◌∙◌, subst, ◌<◌}
-use Rattle.product_search.proofs.LimitLemmas.{more_listed}
-use Rattle.product_search.proofs.SortLemmas.{least_counted}
+use Rattle.plan_base.proofs.Common.{◌∙◌, subst, ◌<◌}
+use Rattle.product_search.proofs.{LimitLemmas.more_listed, SortLemmas.least_counted}
 use Rattle.product_search.proofs.searching.search_counted_within.Goals as goal
 
 pub returns-clause-labels : goal.returns-clause-labels

@@ -1,7 +1,5 @@
-use Rattle.std.proofs.Common.{arith}
-use Rattle.product_search.proofs.ListLemmas.{least_labels, reached_listed, labels_in_time}
-use Rattle.product_search.proofs.ClosureLemmas.{labels_closed}
-use Rattle.product_search.proofs.LimitLemmas.{more_listed}
+use Rattle.plan_base.proofs.Common.{arith}
+use Rattle.product_search.proofs.{ListLemmas.least_labels, ListLemmas.reached_listed, ListLemmas.labels_in_time, ClosureLemmas.labels_closed, LimitLemmas.more_listed}
 use Rattle.product_search.proofs.searching.search_within.Goals as goal
 
 pub returns-clause-labels : goal.returns-clause-labels

@@ -1,5 +1,5 @@
-use Rattle.std.proofs.Common.{below_more}
-use Rattle.product_search.specs.inside.Exploring.{IsStartAt}
+use Rattle.plan_base.proofs.Common.{below_more}
+use Rattle.product_search.specs.inside.{IsStartAt}
 use Rattle.product_search.proofs.OfferLemmas.{offers_more, departure_keeps}
 use Rattle.product_search.proofs.start.offer_start.Goals as goal
 

@@ -1,7 +1,5 @@
-use Rattle.std.proofs.Common.{ℕ, ◌<◌}
-use Rattle.std.specs.Prelude.{IsTrue}
-use Rattle.product_search.specs.inside.Waiting.{IsFrontier, IsReachedBy}
-use Rattle.product_search.specs.inside.Exploring.{Offers, IsStartAt}
+use Rattle.plan_base.proofs.Common.{ℕ, ◌<◌, IsTrue}
+use Rattle.product_search.specs.inside.{IsFrontier, IsReachedBy, Offers, IsStartAt}
 use Rattle.product_search.proofs.start.offer_start.Given as goal
 
 abbrev pub invariant-loop-state : goal.invariant-loop-state

@@ -1,5 +1,5 @@
-use Rattle.std.proofs.Common.{below_more, slice_index}
-use Rattle.product_search.specs.inside.Exploring.{IsStartAt, IsStartAmong}
+use Rattle.plan_base.proofs.Common.{below_more, slice_index}
+use Rattle.product_search.specs.inside.{IsStartAt, IsStartAmong}
 use Rattle.product_search.proofs.OfferLemmas.{offers_more, offers_weaker, start_keeps, start_among}
 use Rattle.product_search.proofs.start.offer_starts.Goals as goal
 

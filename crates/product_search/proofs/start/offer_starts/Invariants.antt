@@ -1,6 +1,5 @@
-use Rattle.std.proofs.Common.{ℕ, ◌<◌, slice_index}
-use Rattle.product_search.specs.inside.Waiting.{IsFrontier}
-use Rattle.product_search.specs.inside.Exploring.{Offers, IsStartAmong, StartIsReached}
+use Rattle.plan_base.proofs.Common.{ℕ, ◌<◌, slice_index}
+use Rattle.product_search.specs.inside.{IsFrontier, Offers, IsStartAmong, StartIsReached}
 use Rattle.product_search.proofs.start.offer_starts.Given as goal
 
 abbrev pub invariant-loop-node : goal.invariant-loop-node

@@ -1,6 +1,5 @@
-use Rattle.std.proofs.Common.{ℕ, ◌+◌, length, take, drop, slice_index, ◌∙◌, ap, subst, length-append, arith}
-use Rattle.std.proofs.lemmas.List.{take_all, length-map}
-use Rattle.product_search.specs.Closed.{start_states, start_pairs, pairs_at, AllListed}
+use Rattle.plan_base.proofs.Common.{ℕ, ◌+◌, length, take, drop, slice_index, ◌∙◌, ap, subst, length-append, arith, take_all, length-map}
+use Rattle.product_search.specs.{start_states, start_pairs, pairs_at, AllListed}
 use Rattle.product_search.proofs.StartLemmas.{start_pairs_more, start_pairs_split, all_listed_both, fails_between}
 use Rattle.product_search.proofs.start_check.first_unlisted_start.Goals as goal
 

@@ -1,5 +1,5 @@
-use Rattle.std.proofs.Common.{◌≡◌, ◌*◌, ◌^◌, ◌≤◌, length, take}
-use Rattle.product_search.specs.Closed.{start_pairs, AllListed}
+use Rattle.plan_base.proofs.Common.{◌≡◌, ◌*◌, ◌^◌, ◌≤◌, length, take}
+use Rattle.product_search.specs.{start_pairs, AllListed}
 use Rattle.product_search.proofs.start_check.first_unlisted_start.Given as goal
 
 abbrev pub invariant-loop-node : goal.invariant-loop-node

@@ -1,9 +1,7 @@
-use Rattle.std.proofs.Common.{◌≡◌, length, sym, ◌∙◌, subst, arith}
-use Rattle.std.proofs.lemmas.Bool.{false≢true}
-use Rattle.product_search.specs.Closed.{start_states, pairs_at, AllListed}
-use Rattle.product_search.proofs.StartLemmas.{counted_yes, counted_no, fails_in_states}
+use Rattle.plan_base.proofs.Common.{◌≡◌, length, sym, ◌∙◌, subst, arith, false≢true}
+use Rattle.product_search.specs.{start_states, pairs_at, AllListed}
+use Rattle.product_search.proofs.{StartLemmas.counted_yes, StartLemmas.counted_no, StartLemmas.fails_in_states, start_check.unlisted_state.Goals.then-is_start+else-not-is_listed, start_check.unlisted_state.Goals.else-is_start}
 use Rattle.product_search.proofs.start_check.unlisted_state.Goals as goal
-use Rattle.product_search.proofs.start_check.unlisted_state.Goals.{then-is_start+else-not-is_listed, else-is_start}
 
 pub returns-then-not-is_listed-clause-unlisted : goal.returns-then-not-is_listed-clause-unlisted
 returns-then-not-is_listed-clause-unlisted g c =

@@ -1,4 +1,4 @@
-use Rattle.product_search.specs.inside.Places.{ArePlaces}
+use Rattle.product_search.specs.inside.{ArePlaces}
 use Rattle.product_search.proofs.targets.places_of.Given as goal
 
 abbrev pub invariant-loop-k : goal.invariant-loop-k

@@ -1,5 +1,5 @@
-use Rattle.std.proofs.Common.{subst, sym, ◌∙◌}
-use Rattle.region_build.specs.Answers.{IsCompiled}
+use Rattle.plan_base.proofs.Common.{subst, sym, ◌∙◌}
+use Rattle.region_build.specs.{IsCompiled}
 use Rattle.region_build.proofs.BuildLaws.{compiled_are_parts, compiled_keep}
 use Rattle.region_build.proofs.building.build.Goals as goal
 

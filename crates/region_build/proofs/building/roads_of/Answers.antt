@@ -1,12 +1,9 @@
-use Rattle.std.proofs.Common.{ℤ, ap, arith, length, ◌∙◌, subst, List, Option}
-use Rattle.plan_base.specs.declared.places.Place.{Place}
-use Rattle.opl_reader.specs.ObjectLists.{ObjectLists}
-use Rattle.opl_reader.specs.declared.objects.OsmNode.{OsmNode}
-use Rattle.road_profile.specs.Legs.{place_of_node}
-use Rattle.road_profile.specs.declared.rows.RoadRow.{RoadRow}
-use Rattle.region_build.specs.Ends.{AreEnds}
-use Rattle.mode_network.specs.Rules.{AreInOrder}
-use Rattle.region_build.specs.Roads.{arcs_of, road_nodes}
+use Rattle.plan_base.proofs.Common.{ℤ, ap, arith, length, ◌∙◌, subst, List, Option}
+use Rattle.plan_base.specs.{Place}
+use Rattle.opl_reader.specs.{ObjectLists.ObjectLists, OsmNode}
+use Rattle.road_profile.specs.{place_of_node, RoadRow}
+use Rattle.region_build.specs.{AreEnds, arcs_of, road_nodes}
+use Rattle.mode_network.specs.{AreInOrder}
 use Rattle.region_build.proofs.building.roads_of.Goals as goal
 
 pub road_arcs-requires : goal.road_arcs-requires

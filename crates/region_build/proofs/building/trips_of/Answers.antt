@@ -1,23 +1,8 @@
-use Rattle.std.proofs.Common.{List, ℕ, Option, ◌≡◌, ◌≤◌, length, map, subst, sym, ap, ◌∙◌}
-use Rattle.std.specs.List.{AllByRecursion}
-use Rattle.plan_base.specs.declared.limits.Caps.{Caps}
-use Rattle.gtfs_tables.specs.FeedLists.{FeedLists}
-use Rattle.gtfs_tables.specs.Sound.{IsFeedId}
-use Rattle.gtfs_tables.specs.declared.calls.CallRow.{CallRow}
-use Rattle.gtfs_tables.specs.declared.frequencies.FrequencyRow.{FrequencyRow}
-use Rattle.region_build.specs.Answers.{fault_by}
-use Rattle.region_build.specs.Compiled.{network_lists}
-use Rattle.region_build.specs.Copies.{expanded}
-use Rattle.region_build.specs.Sources.{AreCallsInOrder, AreFrequenciesInOrder, lists_of}
-use Rattle.region_build.specs.StopNames.{stop_number}
-use Rattle.region_build.specs.Tallies.{IsTally}
-use Rattle.region_build.specs.declared.faults.BuildFault.{BuildFault}
-use Rattle.region_build.specs.declared.sources.Source.{Source}
-use Rattle.region_build.specs.declared.stops.StopEntry.{StopEntry}
-use Rattle.region_build.specs.declared.tallies.Counts.{Counts}
-use Rattle.region_build.proofs.BuildLaws.{are_compiled, has_fault}
-use Rattle.region_build.proofs.TripLaws.{sources_have_ids}
-use Rattle.region_build.proofs.TripRuleLaws.{headways_last, headways_right}
+use Rattle.plan_base.proofs.Common.{List, ℕ, Option, ◌≡◌, ◌≤◌, length, map, subst, sym, ap, ◌∙◌, AllByRecursion}
+use Rattle.plan_base.specs.{Caps}
+use Rattle.gtfs_tables.specs.{FeedLists.FeedLists, IsFeedId, CallRow, FrequencyRow}
+use Rattle.region_build.specs.{fault_by, network_lists, expanded, AreCallsInOrder, AreFrequenciesInOrder, lists_of, stop_number, IsTally, BuildFault, Source, StopEntry, Counts}
+use Rattle.region_build.proofs.{BuildLaws.are_compiled, BuildLaws.has_fault, TripLaws.sources_have_ids, TripRuleLaws.headways_last, TripRuleLaws.headways_right}
 use Rattle.region_build.proofs.building.trips_of.Goals as goal
 
 fault_is : (caps : Caps) (back : Option ℕ) {counts given : Counts} {fault other : Option BuildFault} → fault ≡ fault_by caps counts back → counts ≡ given → fault ≡ other → fault_by caps given back ≡ other

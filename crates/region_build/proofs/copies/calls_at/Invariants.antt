@@ -1,7 +1,5 @@
-use Rattle.std.proofs.Common.{◌≡◌, ◌++◌, length, map, nat_eq, true}
-use Rattle.std.specs.HashMap.{get}
-use Rattle.std.specs.List.{list_all}
-use Rattle.region_build.specs.Copies.{call_at, is_copy_early}
+use Rattle.plan_base.proofs.Common.{◌≡◌, ◌++◌, length, map, nat_eq, true, get, list_all}
+use Rattle.region_build.specs.{call_at, is_copy_early}
 use Rattle.region_build.proofs.copies.calls_at.Given as goal
 
 abbrev pub decreases-loop-rest : goal.decreases-loop-rest

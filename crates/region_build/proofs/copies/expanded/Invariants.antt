@@ -1,9 +1,6 @@
-use Rattle.std.proofs.Common.{◌≡◌, ◌++◌, length, map, nat_eq}
-use Rattle.std.specs.HashMap.{get}
-use Rattle.std.specs.List.{AllByRecursion, flat_map}
-use Rattle.gtfs_tables.specs.Sound.{IsFeedId}
-use Rattle.region_build.specs.Copies.{copies_of}
-use Rattle.region_build.specs.Sources.{lists_of}
+use Rattle.plan_base.proofs.Common.{◌≡◌, ◌++◌, length, map, nat_eq, get, AllByRecursion, flat_map}
+use Rattle.gtfs_tables.specs.{IsFeedId}
+use Rattle.region_build.specs.{copies_of, lists_of}
 use Rattle.region_build.proofs.copies.expanded.Given as goal
 
 abbrev pub decreases-loop-rest : goal.decreases-loop-rest

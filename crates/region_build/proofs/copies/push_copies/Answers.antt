@@ -1,7 +1,5 @@
-use Rattle.std.proofs.Common.{◌≡◌, true, subst, sym, ◌∙◌}
-use Rattle.std.specs.List.{All}
-use Rattle.region_build.specs.Copies.{copies_of, is_kept}
-use Rattle.region_build.specs.Sources.{lists_of}
+use Rattle.plan_base.proofs.Common.{◌≡◌, true, subst, sym, ◌∙◌, All}
+use Rattle.region_build.specs.{copies_of, is_kept, lists_of}
 use Rattle.region_build.proofs.LeavingLaws.{all_kept}
 use Rattle.region_build.proofs.copies.push_copies.Goals as goal
 

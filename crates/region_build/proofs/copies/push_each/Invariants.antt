@@ -1,7 +1,5 @@
-use Rattle.std.proofs.Common.{◌≡◌, ◌++◌, map, nat_eq, take}
-use Rattle.std.specs.HashMap.{get}
-use Rattle.region_build.specs.Copies.{copy_at}
-use Rattle.region_build.specs.Sources.{lists_of}
+use Rattle.plan_base.proofs.Common.{◌≡◌, ◌++◌, map, nat_eq, take, get}
+use Rattle.region_build.specs.{copy_at, lists_of}
 use Rattle.region_build.proofs.copies.push_each.Given as goal
 
 abbrev pub invariant-loop-leave : goal.invariant-loop-leave

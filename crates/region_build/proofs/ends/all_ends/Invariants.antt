@@ -1,6 +1,5 @@
-use Rattle.std.proofs.Common.{◌≡◌, take}
-use Rattle.std.specs.List.{flat_map}
-use Rattle.region_build.specs.Ends.{ends_at}
+use Rattle.plan_base.proofs.Common.{◌≡◌, take, flat_map}
+use Rattle.region_build.specs.{ends_at}
 use Rattle.region_build.proofs.ends.all_ends.Given as goal
 
 abbrev pub invariant-loop-row : goal.invariant-loop-row

@@ -1,6 +1,5 @@
-use Rattle.std.proofs.Common.{rules, of_calls}
-use Rattle.std.proofs.lemmas.List.Sorted.{answers_always}
-use Rattle.region_build.specs.Ends.{key_of_end}
+use Rattle.plan_base.proofs.Common.{rules, of_calls, answers_always}
+use Rattle.region_build.specs.{key_of_end}
 use Rattle.region_build.proofs.ends.in_order.Goals as goal
 
 pub returns-clause-ascend : goal.returns-clause-ascend

@@ -1,5 +1,4 @@
-use Rattle.std.proofs.Common.{rules, w64, SFits, ◌∙◌}
-use Rattle.std.proofs.lemmas.Int.{to_z-of_z}
+use Rattle.plan_base.proofs.Common.{rules, w64, SFits, ◌∙◌, to_z-of_z}
 use Rattle.region_build.proofs.KeyLaws.{first_sight, seen_before}
 use Rattle.region_build.proofs.ends.put_once.Goals as goal
 

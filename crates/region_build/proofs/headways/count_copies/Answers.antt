@@ -1,10 +1,5 @@
-use Rattle.std.proofs.Common.{◌≡◌, ◌<◌, length, true, false, nat_lt, refl, subst, arith}
-use Rattle.std.proofs.lemmas.Bool.Decides.{nat_tests}
-use Rattle.std.proofs.lemmas.List.{nil_from_length}
-use Rattle.std.proofs.lemmas.Option.{IfSome_then}
-use Rattle.region_build.specs.Copies.{first_departure}
-use Rattle.region_build.specs.inside.Leaving.{AreRowCounts, kept_before}
-use Rattle.region_build.specs.Sources.{lists_of}
+use Rattle.plan_base.proofs.Common.{◌≡◌, ◌<◌, length, true, false, nat_lt, refl, subst, arith, nat_tests, nil_from_length, IfSome_then}
+use Rattle.region_build.specs.{first_departure, lists_of, inside.AreRowCounts, inside.kept_before}
 use Rattle.region_build.proofs.LeavingLaws.{none_counted, once_counted, rows_counted}
 use Rattle.region_build.proofs.headways.count_copies.Goals as goal
 

@@ -1,4 +1,4 @@
-use Rattle.std.proofs.Common.{arith}
+use Rattle.plan_base.proofs.Common.{arith}
 use Rattle.region_build.proofs.LeavingLaws.{count_departures, count_leaves}
 use Rattle.region_build.proofs.headways.count_row.Goals as goal
 

@@ -1,8 +1,5 @@
-use Rattle.std.proofs.Common.{◌≡◌, ◌+◌, ◌≤◌, length}
-use Rattle.std.specs.Prelude.{sum_by}
-use Rattle.std.specs.List.{AllByRecursion}
-use Rattle.region_build.specs.Copies.{departures_by}
-use Rattle.region_build.specs.inside.Leaving.{leaves_by}
+use Rattle.plan_base.proofs.Common.{◌≡◌, ◌+◌, ◌≤◌, length, sum_by, AllByRecursion}
+use Rattle.region_build.specs.{departures_by, inside.leaves_by}
 use Rattle.region_build.proofs.headways.count_rows.Given as goal
 
 abbrev pub decreases-loop-rest : goal.decreases-loop-rest

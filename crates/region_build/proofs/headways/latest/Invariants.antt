@@ -1,5 +1,5 @@
-use Rattle.std.proofs.Common.{◌≡◌, length}
-use Rattle.region_build.specs.inside.Leaving.{latest_of}
+use Rattle.plan_base.proofs.Common.{◌≡◌, length}
+use Rattle.region_build.specs.inside.{latest_of}
 use Rattle.region_build.proofs.headways.latest.Given as goal
 
 abbrev pub decreases-loop-rest : goal.decreases-loop-rest

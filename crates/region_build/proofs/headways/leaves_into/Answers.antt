@@ -1,9 +1,5 @@
-use Rattle.std.proofs.Common.{◌≡◌, ◌<◌, length, true, false, nat_lt, ◌∙◌, refl, arith}
-use Rattle.std.proofs.lemmas.Bool.Decides.{nat_tests}
-use Rattle.std.proofs.lemmas.List.{nil_from_length}
-use Rattle.region_build.specs.Copies.{first_departure}
-use Rattle.region_build.specs.inside.Leaving.{kept_before}
-use Rattle.region_build.specs.Sources.{lists_of}
+use Rattle.plan_base.proofs.Common.{◌≡◌, ◌<◌, length, true, false, nat_lt, ◌∙◌, refl, arith, nat_tests, nil_from_length}
+use Rattle.region_build.specs.{first_departure, lists_of, inside.kept_before}
 use Rattle.region_build.proofs.LeavingLaws.{leaves_by_all, leaves_never, leaves_once}
 use Rattle.region_build.proofs.headways.leaves_into.Goals as goal
 

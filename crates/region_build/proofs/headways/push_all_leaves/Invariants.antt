@@ -1,6 +1,5 @@
-use Rattle.std.proofs.Common.{◌≡◌, ◌++◌, take}
-use Rattle.std.specs.List.{flat_map}
-use Rattle.region_build.specs.inside.Leaving.{leaves_by}
+use Rattle.plan_base.proofs.Common.{◌≡◌, ◌++◌, take, flat_map}
+use Rattle.region_build.specs.inside.{leaves_by}
 use Rattle.region_build.proofs.headways.push_all_leaves.Given as goal
 
 abbrev pub invariant-loop-row : goal.invariant-loop-row

@@ -1,5 +1,5 @@
-use Rattle.std.proofs.Common.{◌≡◌, ◌++◌}
-use Rattle.region_build.specs.Copies.{departing}
+use Rattle.plan_base.proofs.Common.{◌≡◌, ◌++◌}
+use Rattle.region_build.specs.{departing}
 use Rattle.region_build.proofs.headways.push_leaves.Given as goal
 
 abbrev pub decreases-loop-most : goal.decreases-loop-most

@@ -1,5 +1,5 @@
-use Rattle.std.proofs.Common.{◌≡◌, take}
-use Rattle.region_build.specs.Links.{layer}
+use Rattle.plan_base.proofs.Common.{◌≡◌, take}
+use Rattle.region_build.specs.{layer}
 use Rattle.region_build.proofs.layers.points_of.Given as goal
 
 abbrev pub invariant-loop-node : goal.invariant-loop-node

@@ -1,6 +1,5 @@
-use Rattle.std.proofs.Common.{◌≡◌, ◌+◌, ◌++◌, length, map}
-use Rattle.region_build.specs.inside.Layers.{near_of}
-use Rattle.region_build.specs.Links.{place_links}
+use Rattle.plan_base.proofs.Common.{◌≡◌, ◌+◌, ◌++◌, length, map}
+use Rattle.region_build.specs.{inside.near_of, place_links}
 use Rattle.region_build.proofs.links.push_places.Given as goal
 
 abbrev pub decreases-loop-rest : goal.decreases-loop-rest

@@ -1,5 +1,5 @@
-use Rattle.std.proofs.Common.{◌≡◌, take}
-use Rattle.region_build.specs.Roads.{arcs_of}
+use Rattle.plan_base.proofs.Common.{◌≡◌, take}
+use Rattle.region_build.specs.{arcs_of}
 use Rattle.region_build.proofs.roads.arcs_between.Given as goal
 
 abbrev pub invariant-loop-row : goal.invariant-loop-row

@@ -1,5 +1,4 @@
-use Rattle.std.proofs.lemmas.List.Sorted.{answers_always}
-use Rattle.std.proofs.Common.{rules}
+use Rattle.plan_base.proofs.Common.{answers_always, rules}
 use Rattle.region_build.proofs.roads.in_order.Goals as goal
 
 pub returns : goal.returns

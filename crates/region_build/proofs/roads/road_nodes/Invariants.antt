@@ -1,7 +1,5 @@
-use Rattle.std.proofs.Common.{◌≡◌, take}
-use Rattle.std.specs.HashMap.{get}
-use Rattle.std.specs.Ordering.{int_eq}
-use Rattle.region_build.specs.Roads.{road_nodes}
+use Rattle.plan_base.proofs.Common.{◌≡◌, take, get, int_eq}
+use Rattle.region_build.specs.{road_nodes}
 use Rattle.region_build.proofs.roads.road_nodes.Given as goal
 
 abbrev pub invariant-loop-id : goal.invariant-loop-id

@@ -1,8 +1,6 @@
-use Rattle.std.proofs.Common.{◌++◌, ◌∷◌, [], ◌∙◌, ap, sym, arith, if◌then◌else◌}
-use Rattle.std.specs.Prelude.{bytes_eq}
-use Rattle.region_build.proofs.ServiceLaws.{dates_more, dates_same}
+use Rattle.plan_base.proofs.Common.{◌++◌, ◌∷◌, [], ◌∙◌, ap, sym, arith, if◌then◌else◌, bytes_eq}
+use Rattle.region_build.proofs.{ServiceLaws.dates_more, ServiceLaws.dates_same, services.dates_of.Goals.then-is_change+in_ok-note_date, services.dates_of.Goals.else-is_change}
 use Rattle.region_build.proofs.services.dates_of.Goals as goal
-use Rattle.region_build.proofs.services.dates_of.Goals.{then-is_change+in_ok-note_date, else-is_change}
 
 pub loop-row-preserved : goal.loop-row-preserved
 loop-row-preserved c = λ id.

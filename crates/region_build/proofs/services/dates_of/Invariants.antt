@@ -1,6 +1,5 @@
-use Rattle.std.proofs.Common.{◌≡◌, ℕ, List, take}
-use Rattle.region_build.specs.inside.ByService.{listed}
-use Rattle.region_build.specs.Services.{dates_of}
+use Rattle.plan_base.proofs.Common.{◌≡◌, ℕ, List, take}
+use Rattle.region_build.specs.{inside.listed, dates_of}
 use Rattle.region_build.proofs.services.dates_of.Given as goal
 
 abbrev pub invariant-loop-row : goal.invariant-loop-row

@@ -1,8 +1,5 @@
-use Rattle.std.proofs.Common.{List, ℕ, ◌++◌, [], ◌∷◌, ap, ◌∙◌}
-use Rattle.std.specs.Prelude.{Vec}
-use Rattle.std.specs.declared.alloc.Global.{Global}
-use Rattle.std.proofs.lemmas.Map.Text.{hash_map_updates_str}
-use Rattle.region_build.specs.inside.ByService.{at}
+use Rattle.plan_base.proofs.Common.{List, ℕ, ◌++◌, [], ◌∷◌, ap, ◌∙◌, Vec, Global, hash_map_updates_str}
+use Rattle.region_build.specs.inside.{at}
 use Rattle.region_build.proofs.ServiceLaws.{date_put, items_of, items_taken}
 use Rattle.region_build.proofs.services.note_date.Goals as goal
 

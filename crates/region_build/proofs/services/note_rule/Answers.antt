@@ -1,7 +1,5 @@
-use Rattle.std.proofs.Common.{◌≡◌, ◌∙◌, true, arith}
-use Rattle.std.specs.Prelude.{is_none}
-use Rattle.std.proofs.lemmas.Map.Text.{hash_map_updates_str}
-use Rattle.region_build.specs.inside.ByService.{at}
+use Rattle.plan_base.proofs.Common.{◌≡◌, ◌∙◌, true, arith, is_none, hash_map_updates_str}
+use Rattle.region_build.specs.inside.{at}
 use Rattle.region_build.proofs.ServiceLaws.{nothing_kept, rule_comes}
 use Rattle.region_build.proofs.services.note_rule.Goals as goal
 

@@ -1,5 +1,4 @@
-use Rattle.std.proofs.Common.{◌<◌, length, arith}
-use Rattle.std.proofs.lemmas.List.{take_more}
+use Rattle.plan_base.proofs.Common.{◌<◌, length, arith, take_more}
 use Rattle.region_build.proofs.ServiceLaws.{rule_of-push}
 use Rattle.region_build.proofs.services.rules_of.Goals as goal
 

@@ -1,6 +1,5 @@
-use Rattle.std.proofs.Common.{◌≡◌, ℕ, List, take}
-use Rattle.region_build.specs.inside.ByService.{at}
-use Rattle.region_build.specs.Services.{rule_of}
+use Rattle.plan_base.proofs.Common.{◌≡◌, ℕ, List, take}
+use Rattle.region_build.specs.{inside.at, rule_of}
 use Rattle.region_build.proofs.services.rules_of.Given as goal
 
 abbrev pub invariant-loop-service : goal.invariant-loop-service

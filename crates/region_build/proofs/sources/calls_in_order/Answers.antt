@@ -1,7 +1,5 @@
-use Rattle.std.proofs.Common.{List, rules, subst}
-use Rattle.std.specs.List.Sorted.{IsPermutation}
-use Rattle.std.proofs.lemmas.List.Sorted.{answers_always}
-use Rattle.gtfs_tables.specs.declared.calls.CallRow.{CallRow}
+use Rattle.plan_base.proofs.Common.{List, rules, subst, IsPermutation, answers_always}
+use Rattle.gtfs_tables.specs.{CallRow}
 use Rattle.region_build.proofs.sources.calls_in_order.Goals as goal
 
 pub returns : goal.returns

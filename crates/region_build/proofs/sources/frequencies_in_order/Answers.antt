@@ -1,7 +1,5 @@
-use Rattle.std.proofs.Common.{List, rules, subst}
-use Rattle.std.specs.List.Sorted.{IsPermutation}
-use Rattle.std.proofs.lemmas.List.Sorted.{answers_always}
-use Rattle.gtfs_tables.specs.declared.frequencies.FrequencyRow.{FrequencyRow}
+use Rattle.plan_base.proofs.Common.{List, rules, subst, IsPermutation, answers_always}
+use Rattle.gtfs_tables.specs.{FrequencyRow}
 use Rattle.region_build.proofs.sources.frequencies_in_order.Goals as goal
 
 pub returns : goal.returns

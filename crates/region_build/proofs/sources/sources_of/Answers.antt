@@ -1,11 +1,7 @@
-use Rattle.std.proofs.Common.{List, ℕ, ◌∷◌, ◌-◌, ◌∙◌, ap, arith, drop, length, rules, subst, sym, take}
-use Rattle.gtfs_tables.specs.declared.calls.CallRow.{CallRow}
-use Rattle.gtfs_tables.specs.declared.frequencies.FrequencyRow.{FrequencyRow}
-use Rattle.region_build.specs.Groups.{trip_of_call, trip_of_frequency}
-use Rattle.region_build.specs.Services.{AreDaysOf}
-use Rattle.region_build.proofs.GroupLaws.{ascend_from_sorted}
-use Rattle.region_build.proofs.ServiceLaws.{days_are}
-use Rattle.region_build.proofs.SourceLaws.{all_told, first_and_rest, one_more}
+use Rattle.plan_base.proofs.Common.{List, ℕ, ◌∷◌, ◌-◌, ◌∙◌, ap, arith, drop, length, rules, subst, sym, take}
+use Rattle.gtfs_tables.specs.{CallRow, FrequencyRow}
+use Rattle.region_build.specs.{trip_of_call, trip_of_frequency, AreDaysOf}
+use Rattle.region_build.proofs.{GroupLaws.ascend_from_sorted, ServiceLaws.days_are, SourceLaws.all_told, SourceLaws.first_and_rest, SourceLaws.one_more}
 use Rattle.region_build.proofs.sources.sources_of.Goals as goal
 
 pub loop-rest-init : goal.loop-rest-init

@@ -1,8 +1,5 @@
-use Rattle.std.proofs.Common.{◌≡◌, ℕ, ◌+◌, ◌++◌, ◌≤◌, List, length, map}
-use Rattle.std.specs.Prelude.{filter}
-use Rattle.region_build.specs.inside.ByService.{KnowDays, at, listed}
-use Rattle.region_build.specs.Groups.{Ascend, is_of, trip_of_call, trip_of_frequency}
-use Rattle.region_build.specs.Sources.{AreSourcesFrom, SourceLists, lists_of}
+use Rattle.plan_base.proofs.Common.{◌≡◌, ℕ, ◌+◌, ◌++◌, ◌≤◌, List, length, map, filter}
+use Rattle.region_build.specs.{inside.KnowDays, inside.at, inside.listed, Ascend, is_of, trip_of_call, trip_of_frequency, AreSourcesFrom, SourceLists, lists_of}
 use Rattle.region_build.proofs.sources.sources_of.Given as goal
 
 abbrev pub decreases-loop-rest : goal.decreases-loop-rest

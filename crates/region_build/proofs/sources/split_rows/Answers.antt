@@ -1,4 +1,4 @@
-use Rattle.std.proofs.Common.{ap, ◌∙◌, take}
+use Rattle.plan_base.proofs.Common.{ap, ◌∙◌, take}
 use Rattle.region_build.proofs.GroupLaws.{kept, later, own}
 use Rattle.region_build.proofs.sources.split_rows.Goals as goal
 

@@ -1,7 +1,6 @@
-use Rattle.std.proofs.Common.{◌≡◌, ◌+◌, ◌++◌, length}
-use Rattle.std.specs.List.{AllByRecursion}
-use Rattle.gtfs_tables.specs.Sound.{IsFeedId}
-use Rattle.region_build.specs.StopNames.{entries_from}
+use Rattle.plan_base.proofs.Common.{◌≡◌, ◌+◌, ◌++◌, length, AllByRecursion}
+use Rattle.gtfs_tables.specs.{IsFeedId}
+use Rattle.region_build.specs.{entries_from}
 use Rattle.region_build.proofs.stops.all_entries.Given as goal
 
 abbrev pub decreases-loop-rest : goal.decreases-loop-rest

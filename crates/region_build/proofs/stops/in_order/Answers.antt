@@ -1,9 +1,6 @@
-use Rattle.std.proofs.Common.{rules}
-use Rattle.std.specs.Ordering.{is_lt}
-use Rattle.std.proofs.lemmas.Cmp.{nat_list_cmp_total}
-use Rattle.std.proofs.lemmas.List.Sorted.{answers_always, ranks_by}
-use Rattle.mode_network.specs.Rules.{name_cmp}
-use Rattle.region_build.specs.declared.stops.StopEntry.{StopEntry}
+use Rattle.plan_base.proofs.Common.{rules, is_lt, nat_list_cmp_total, answers_always, ranks_by}
+use Rattle.mode_network.specs.{name_cmp}
+use Rattle.region_build.specs.{StopEntry}
 use Rattle.region_build.proofs.stops.in_order.Goals as goal
 
 pub returns-clause-ascend : goal.returns-clause-ascend

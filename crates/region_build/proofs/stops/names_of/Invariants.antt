@@ -1,5 +1,5 @@
-use Rattle.std.proofs.Common.{◌≡◌, map}
-use Rattle.region_build.specs.declared.stops.StopEntry.{StopEntry}
+use Rattle.plan_base.proofs.Common.{◌≡◌, map}
+use Rattle.region_build.specs.{StopEntry}
 use Rattle.region_build.proofs.stops.names_of.Given as goal
 
 abbrev pub invariant-loop-entry : goal.invariant-loop-entry

@@ -1,6 +1,5 @@
-use Rattle.std.proofs.Common.{nat_eq}
-use Rattle.std.specs.HashMap.{get}
-use Rattle.region_build.specs.StopNames.{stop_number}
+use Rattle.plan_base.proofs.Common.{nat_eq, get}
+use Rattle.region_build.specs.{stop_number}
 use Rattle.region_build.proofs.NumberLaws.{all_noted}
 use Rattle.region_build.proofs.stops.numbers_of.Goals as goal
 

@@ -1,7 +1,5 @@
-use Rattle.std.proofs.Common.{◌≡◌, ℕ, ◌+◌, length, nat_eq}
-use Rattle.std.specs.HashMap.{get}
-use Rattle.std.specs.Option.{option_or}
-use Rattle.region_build.specs.StopNames.{number_from}
+use Rattle.plan_base.proofs.Common.{◌≡◌, ℕ, ◌+◌, length, nat_eq, get, option_or}
+use Rattle.region_build.specs.{number_from}
 use Rattle.region_build.proofs.stops.numbers_of.Given as goal
 
 abbrev pub decreases-loop-rest : goal.decreases-loop-rest

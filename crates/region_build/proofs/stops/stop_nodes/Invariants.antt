@@ -1,5 +1,5 @@
-use Rattle.std.proofs.Common.{◌≡◌, ◌+◌, ◌++◌, length}
-use Rattle.region_build.specs.StopNames.{stop_entry_nodes}
+use Rattle.plan_base.proofs.Common.{◌≡◌, ◌+◌, ◌++◌, length}
+use Rattle.region_build.specs.{stop_entry_nodes}
 use Rattle.region_build.proofs.stops.stop_nodes.Given as goal
 
 abbrev pub decreases-loop-rest : goal.decreases-loop-rest

@@ -1,7 +1,5 @@
-use Rattle.std.proofs.Common.{◌≡◌, take}
-use Rattle.std.specs.Prelude.{option_to_list}
-use Rattle.std.specs.List.{flat_map}
-use Rattle.region_build.specs.Switches.{switch_at}
+use Rattle.plan_base.proofs.Common.{◌≡◌, take, option_to_list, flat_map}
+use Rattle.region_build.specs.{switch_at}
 use Rattle.region_build.proofs.switches.all_switches.Given as goal
 
 abbrev pub invariant-loop-node : goal.invariant-loop-node

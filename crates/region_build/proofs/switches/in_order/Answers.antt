@@ -1,5 +1,4 @@
-use Rattle.std.proofs.Common.{rules}
-use Rattle.std.proofs.lemmas.List.Sorted.{answers_always}
+use Rattle.plan_base.proofs.Common.{rules, answers_always}
 use Rattle.region_build.proofs.switches.in_order.Goals as goal
 
 pub returns-clause-ascend : goal.returns-clause-ascend

@@ -1,5 +1,5 @@
-use Rattle.std.proofs.Common.{◌≡◌, map, take}
-use Rattle.region_build.specs.Switches.{switch_node}
+use Rattle.plan_base.proofs.Common.{◌≡◌, map, take}
+use Rattle.region_build.specs.{switch_node}
 use Rattle.region_build.proofs.switches.switch_nodes.Given as goal
 
 abbrev pub invariant-loop-switch : goal.invariant-loop-switch

@@ -1,5 +1,5 @@
-use Rattle.std.proofs.Common.{◌≡◌, length}
-use Rattle.region_build.specs.Copies.{rows_go_on}
+use Rattle.plan_base.proofs.Common.{◌≡◌, length}
+use Rattle.region_build.specs.{rows_go_on}
 use Rattle.region_build.proofs.tallies.goes_on.Given as goal
 
 abbrev pub decreases-loop-rest : goal.decreases-loop-rest

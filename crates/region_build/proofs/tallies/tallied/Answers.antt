@@ -1,10 +1,5 @@
-use Rattle.std.proofs.Common.{◌≡◌, ◌-◌, ◌<◌, ◌≤◌, ◌++◌, [], ◌∷◌, List, map, length, get_or, take, drop, refl, sym, ap, ◌∙◌, arith, append_assoc, subst}
-use Rattle.std.specs.List.{AllByRecursion}
-use Rattle.std.proofs.lemmas.List.{append-nil}
-use Rattle.region_build.specs.Sources.{SourceLists, lists_of}
-use Rattle.region_build.specs.Tallies.{IsTally}
-use Rattle.region_build.specs.declared.sources.Source.{Source}
-use Rattle.region_build.specs.declared.tallies.Tally.{Tally}
+use Rattle.plan_base.proofs.Common.{◌≡◌, ◌-◌, ◌<◌, ◌≤◌, ◌++◌, [], ◌∷◌, List, map, length, get_or, take, drop, refl, sym, ap, ◌∙◌, arith, append_assoc, subst, AllByRecursion, append-nil}
+use Rattle.region_build.specs.{SourceLists, lists_of, IsTally, Source, Tally}
 use Rattle.region_build.proofs.SourceLaws.{first_and_rest}
 use Rattle.region_build.proofs.tallies.tallied.Goals as goal
 

@@ -1,7 +1,5 @@
-use Rattle.std.proofs.Common.{◌≡◌, ◌++◌, ◌≤◌, List, length, map}
-use Rattle.std.specs.List.{AllByRecursion}
-use Rattle.region_build.specs.Sources.{SourceLists, lists_of}
-use Rattle.region_build.specs.Tallies.{IsTally}
+use Rattle.plan_base.proofs.Common.{◌≡◌, ◌++◌, ◌≤◌, List, length, map, AllByRecursion}
+use Rattle.region_build.specs.{SourceLists, lists_of, IsTally}
 use Rattle.region_build.proofs.tallies.tallied.Given as goal
 
 abbrev pub decreases-loop-rest : goal.decreases-loop-rest

@@ -1,5 +1,5 @@
-use Rattle.std.proofs.Common.{◌≤◌, ◌+◌, ◌-◌, length}
-use Rattle.mode_network.specs.NetworkLists.{nodes_of}
+use Rattle.plan_base.proofs.Common.{◌≤◌, ◌+◌, ◌-◌, length}
+use Rattle.mode_network.specs.{nodes_of}
 use Rattle.region_file.proofs.counts.stop_count.Given as goal
 
 abbrev pub invariant-loop-v : goal.invariant-loop-v

@@ -1,4 +1,4 @@
-use Rattle.std.proofs.Common.{arith}
+use Rattle.plan_base.proofs.Common.{arith}
 use Rattle.region_file.proofs.Decoded.{gives_found, gives_only, gives_cause, gives_none}
 use Rattle.region_file.proofs.decoding.decode.Goals as goal
 

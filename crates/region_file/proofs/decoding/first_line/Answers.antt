@@ -1,6 +1,5 @@
-use Rattle.std.proofs.Common.{◌≡◌, rules}
-use Rattle.std.specs.Prelude.{Some}
-use Rattle.region_file.specs.Sections.{line_at, start}
+use Rattle.plan_base.proofs.Common.{◌≡◌, rules, Some}
+use Rattle.region_file.specs.{line_at, start}
 use Rattle.region_file.proofs.SectionLaws.{first_is_days}
 use Rattle.region_file.proofs.decoding.first_line.Goals as goal
 

@@ -1,9 +1,6 @@
-use Rattle.std.proofs.Common.{◌≡◌, ◌∙◌, ap, sym, rules, arith, length, true, false, ◌<◌, ◌+◌}
-use Rattle.std.specs.Prelude.{Some, None, Ok}
-use Rattle.plain_texts.specs.Course.{lines_from}
-use Rattle.plain_texts.specs.Lines.{next_line_of, pieces}
-use Rattle.region_file.specs.Sections.{is_end, line_at}
-use Rattle.region_file.specs.Regions.{put, put_all}
+use Rattle.plan_base.proofs.Common.{◌≡◌, ◌∙◌, ap, sym, rules, arith, length, true, false, ◌<◌, ◌+◌, Some, None, Ok}
+use Rattle.plain_texts.specs.{lines_from, next_line_of, pieces}
+use Rattle.region_file.specs.{is_end, line_at, put, put_all}
 use Rattle.region_file.proofs.OneLine.{is_some, no_line, bad_line, last_line, more_lines, good_line}
 use Rattle.region_file.proofs.decoding.read_lines.Goals as goal
 

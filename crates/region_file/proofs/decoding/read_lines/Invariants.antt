@@ -1,8 +1,6 @@
-use Rattle.std.proofs.Common.{◌≡◌, ◌≤◌, ◌+◌, length}
-use Rattle.plain_texts.specs.Course.{lines_from}
-use Rattle.plain_texts.specs.Lines.{pieces}
-use Rattle.region_file.specs.Sections.{is_end, line_at}
-use Rattle.region_file.specs.Regions.{put_all}
+use Rattle.plan_base.proofs.Common.{◌≡◌, ◌≤◌, ◌+◌, length}
+use Rattle.plain_texts.specs.{lines_from, pieces}
+use Rattle.region_file.specs.{is_end, line_at, put_all}
 use Rattle.region_file.proofs.decoding.read_lines.Given as goal
 
 abbrev pub invariant-loop-line : goal.invariant-loop-line

@@ -1,11 +1,8 @@
-use Rattle.std.proofs.Common.{◌≡◌, ℕ, List, sym, rules, refl}
-use Rattle.std.specs.Prelude.{Some, None}
-use Rattle.plain_texts.specs.Lines.{next_line_of, pieces}
-use Rattle.plain_texts.specs.Course.{lines_from}
+use Rattle.plan_base.proofs.Common.{◌≡◌, ℕ, List, sym, rules, refl, Some, None}
+use Rattle.plain_texts.specs.{next_line_of, pieces, lines_from}
 use Rattle.service_days.specs.DaysMeaning.{DaysMeaning}
 use Rattle.region_file.specs.declared.lines.Line.TheVariants as line
-use Rattle.region_file.specs.Sections.{behind_days, is_end, line_at, start}
-use Rattle.region_file.specs.Regions.{lists_in_text, nothing, put, put_all}
+use Rattle.region_file.specs.{behind_days, is_end, line_at, start, lists_in_text, nothing, put, put_all}
 use Rattle.region_file.proofs.OneLine.{no_line, bad_line, good_line}
 use Rattle.region_file.proofs.decoding.read_parts.Goals as goal
 

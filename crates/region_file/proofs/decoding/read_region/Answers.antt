@@ -1,4 +1,4 @@
-use Rattle.std.proofs.Common.{arith}
+use Rattle.plan_base.proofs.Common.{arith}
 use Rattle.region_file.proofs.Decoded.{either_found}
 use Rattle.region_file.proofs.decoding.read_region.Goals as goal
 

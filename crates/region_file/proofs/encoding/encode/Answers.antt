@@ -1,16 +1,10 @@
-use Rattle.std.proofs.Common.{◌≡◌, ◌++◌, ◌<◌, ◌^◌, List, length, sym, rules, subst, inl, inr}
-use Rattle.std.specs.Prelude.{All}
-use Rattle.std.specs.List.{flat_map}
-use Rattle.service_days.specs.Zones.{AreKept}
-use Rattle.timetable_arcs.specs.Trips.{TripLists}
-use Rattle.mode_network.specs.NetworkLists.{nodes_of}
-use Rattle.region_file.specs.declared.format.Format.{Format}
-use Rattle.region_file.specs.declared.format.Format.TheVariants.{Text, Binary}
+use Rattle.plan_base.proofs.Common.{◌≡◌, ◌++◌, ◌<◌, ◌^◌, List, length, sym, rules, subst, inl, inr, All, flat_map}
+use Rattle.service_days.specs.{AreKept}
+use Rattle.timetable_arcs.specs.{TripLists}
+use Rattle.mode_network.specs.{nodes_of}
+use Rattle.region_file.specs.{Format, Text, Binary, AreSpelling, spelling, inside.head_in, inside.line_in, inside.node_in, inside.trip_in}
 use Rattle.region_file.specs.declared.lines.Line.TheVariants as line
-use Rattle.region_file.specs.Regions.{AreSpelling, spelling}
-use Rattle.region_file.specs.inside.Texts.{head_in, line_in, node_in, trip_in}
-use Rattle.region_file.proofs.Encoded.{written}
-use Rattle.region_file.proofs.Fits.{counts_fit, few_calls, is_region}
+use Rattle.region_file.proofs.{Encoded.written, Fits.counts_fit, Fits.few_calls, Fits.is_region}
 use Rattle.region_file.proofs.encoding.encode.Goals as goal
 
 pub push_trips-requires : goal.push_trips-requires

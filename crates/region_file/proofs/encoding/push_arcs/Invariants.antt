@@ -1,7 +1,6 @@
-use Rattle.std.proofs.Common.{◌≡◌, ◌++◌, take}
-use Rattle.std.specs.List.{flat_map}
+use Rattle.plan_base.proofs.Common.{◌≡◌, ◌++◌, take, flat_map}
 use Rattle.region_file.specs.declared.lines.Line.TheVariants as line
-use Rattle.region_file.specs.inside.Texts.{line_in}
+use Rattle.region_file.specs.inside.{line_in}
 use Rattle.region_file.proofs.encoding.push_arcs.Given as goal
 
 abbrev pub invariant-loop-arc : goal.invariant-loop-arc

@@ -1,6 +1,6 @@
-use Rattle.std.proofs.lemmas.Option.{get_or_from_slice_get, slice_get_within}
-use Rattle.mode_network.specs.NetworkLists.{nodes_of}
-use Rattle.region_file.specs.inside.Texts.{node_in}
+use Rattle.plan_base.proofs.Common.{get_or_from_slice_get, slice_get_within}
+use Rattle.mode_network.specs.{nodes_of}
+use Rattle.region_file.specs.inside.{node_in}
 use Rattle.region_file.proofs.Encoded.{text_more}
 use Rattle.region_file.proofs.encoding.push_nodes.Goals as goal
 

@@ -1,7 +1,6 @@
-use Rattle.std.proofs.Common.{◌≡◌, ◌++◌, take}
-use Rattle.std.specs.List.{flat_map}
-use Rattle.mode_network.specs.NetworkLists.{nodes_of}
-use Rattle.region_file.specs.inside.Texts.{node_in}
+use Rattle.plan_base.proofs.Common.{◌≡◌, ◌++◌, take, flat_map}
+use Rattle.mode_network.specs.{nodes_of}
+use Rattle.region_file.specs.inside.{node_in}
 use Rattle.region_file.proofs.encoding.push_nodes.Given as goal
 
 abbrev pub invariant-loop-v : goal.invariant-loop-v

@@ -1,9 +1,7 @@
-use Rattle.std.proofs.Common.{ap, sym, ◌∙◌, ◌++◌, length}
-use Rattle.std.specs.List.{flat_map}
-use Rattle.std.proofs.lemmas.List.Folds.{flat_map-map}
-use Rattle.timetable_arcs.specs.Trips.{TripLists}
+use Rattle.plan_base.proofs.Common.{ap, sym, ◌∙◌, ◌++◌, length, flat_map, flat_map-map}
+use Rattle.timetable_arcs.specs.{TripLists}
 use Rattle.region_file.specs.declared.lines.Line.TheVariants as line
-use Rattle.region_file.specs.inside.Texts.{line_in}
+use Rattle.region_file.specs.inside.{line_in}
 use Rattle.region_file.proofs.PushLaws.{two}
 use Rattle.region_file.proofs.encoding.push_trip.Goals as goal
 

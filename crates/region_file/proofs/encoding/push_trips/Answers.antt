@@ -1,5 +1,5 @@
-use Rattle.std.proofs.Common.{sym}
-use Rattle.region_file.specs.inside.Texts.{trip_in}
+use Rattle.plan_base.proofs.Common.{sym}
+use Rattle.region_file.specs.inside.{trip_in}
 use Rattle.region_file.proofs.Encoded.{text_more}
 use Rattle.region_file.proofs.encoding.push_trips.Goals as goal
 

@@ -1,6 +1,5 @@
-use Rattle.std.proofs.Common.{◌≡◌, ◌++◌, take}
-use Rattle.std.specs.List.{flat_map}
-use Rattle.region_file.specs.inside.Texts.{trip_in}
+use Rattle.plan_base.proofs.Common.{◌≡◌, ◌++◌, take, flat_map}
+use Rattle.region_file.specs.inside.{trip_in}
 use Rattle.region_file.proofs.encoding.push_trips.Given as goal
 
 abbrev pub invariant-loop-trip : goal.invariant-loop-trip

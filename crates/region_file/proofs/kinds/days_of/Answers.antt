@@ -1,6 +1,5 @@
-use Rattle.std.proofs.Common.{◌≡◌, ℕ, List, [], ◌∷◌, length, map, refl, sym, ◌<◌, arith, Bor}
-use Rattle.std.specs.Prelude.{None}
-use Rattle.region_file.specs.Kinds.{days_of_words}
+use Rattle.plan_base.proofs.Common.{◌≡◌, ℕ, List, [], ◌∷◌, length, map, refl, sym, ◌<◌, arith, Bor, None}
+use Rattle.region_file.specs.{days_of_words}
 use Rattle.region_file.proofs.kinds.days_of.Goals as goal
 
 too_few : (fields : List (Bor (List ℕ))) → length fields < 2 → days_of_words (map (λ w. w.now) fields) ≡ None

@@ -1,7 +1,5 @@
-use Rattle.std.proofs.Common.{[], sym, ◌∙◌}
-use Rattle.std.proofs.lemmas.Option.{get_or_from_slice_get}
-use Rattle.plan_base.specs.LetterNames.{letter_names}
-use Rattle.plan_base.specs.Modes.{number_of_mode}
+use Rattle.plan_base.proofs.Common.{[], sym, ◌∙◌, get_or_from_slice_get}
+use Rattle.plan_base.specs.{letter_names, number_of_mode}
 use Rattle.region_file.proofs.printing.mode_name.Goals as goal
 
 pub returns : goal.returns

@@ -1,6 +1,6 @@
-use Rattle.std.proofs.Common.{◌≡◌, None, Some, length, rules}
-use Rattle.file_records.specs.Reading.{one}
-use Rattle.region_file.specs.Records.{many}
+use Rattle.plan_base.proofs.Common.{◌≡◌, None, Some, length, rules}
+use Rattle.file_records.specs.{one}
+use Rattle.region_file.specs.{many}
 use Rattle.region_file.proofs.LoopLemmas.{goes_on, halts, is_done, one_is, none_is}
 use Rattle.region_file.proofs.reading.rows_of.Goals as goal
 

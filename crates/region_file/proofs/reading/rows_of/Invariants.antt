@@ -1,6 +1,6 @@
-use Rattle.std.proofs.Common.{◌≡◌, ◌-◌}
-use Rattle.file_records.specs.Reading.{one}
-use Rattle.region_file.specs.Records.{many}
+use Rattle.plan_base.proofs.Common.{◌≡◌, ◌-◌}
+use Rattle.file_records.specs.{one}
+use Rattle.region_file.specs.{many}
 use Rattle.file_records.proofs.RowLaws.{with_front}
 use Rattle.region_file.proofs.reading.rows_of.Given as goal
 

@@ -1,7 +1,6 @@
-use Rattle.std.proofs.Common.{◌≡◌, ◌∙◌, ◌+◌, ◌-◌, [], None, Some, ap₂, rules}
-use Rattle.file_records.specs.Reading.{one}
-use Rattle.region_file.specs.Fronts.{stop_front}
-use Rattle.region_file.specs.Records.{many, stops_read}
+use Rattle.plan_base.proofs.Common.{◌≡◌, ◌∙◌, ◌+◌, ◌-◌, [], None, Some, ap₂, rules}
+use Rattle.file_records.specs.{one}
+use Rattle.region_file.specs.{stop_front, many, stops_read}
 use Rattle.region_file.proofs.LoopLemmas.{with_stops, stops_begin, stops_go_on, stops_halt, stops_done}
 use Rattle.region_file.proofs.reading.stops_of.Goals as goal
 

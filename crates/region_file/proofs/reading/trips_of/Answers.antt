@@ -1,4 +1,4 @@
-use Rattle.region_file.specs.Records.{many, trip_read}
+use Rattle.region_file.specs.{many, trip_read}
 use Rattle.region_file.proofs.LoopLemmas.{goes_on, is_done, passes_on}
 use Rattle.region_file.proofs.reading.trips_of.Goals as goal
 

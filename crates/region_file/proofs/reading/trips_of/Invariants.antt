@@ -1,5 +1,5 @@
-use Rattle.std.proofs.Common.{◌≡◌, ◌-◌}
-use Rattle.region_file.specs.Records.{many, trip_read}
+use Rattle.plan_base.proofs.Common.{◌≡◌, ◌-◌}
+use Rattle.region_file.specs.{many, trip_read}
 use Rattle.file_records.proofs.RowLaws.{with_front}
 use Rattle.region_file.proofs.reading.trips_of.Given as goal
 

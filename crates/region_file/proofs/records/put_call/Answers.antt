@@ -1,5 +1,5 @@
-use Rattle.std.proofs.Common.{◌≡◌, ◌∙◌, ap, length, get_or, ◌<◌, ◌-◌, arith, rules}
-use Rattle.timetable_arcs.specs.Trips.{TripLists}
+use Rattle.plan_base.proofs.Common.{◌≡◌, ◌∙◌, ap, length, get_or, ◌<◌, ◌-◌, arith, rules}
+use Rattle.timetable_arcs.specs.{TripLists}
 use Rattle.region_file.proofs.LastTrip.{last_set, with_one}
 use Rattle.region_file.proofs.records.put_call.Goals as goal
 

@@ -1,4 +1,4 @@
-use Rattle.std.proofs.Common.{ap, ◌∙◌, ◌++◌}
+use Rattle.plan_base.proofs.Common.{ap, ◌∙◌, ◌++◌}
 use Rattle.region_file.proofs.PushLaws.{five}
 use Rattle.region_file.proofs.writing.push_head_of.Goals as goal
 

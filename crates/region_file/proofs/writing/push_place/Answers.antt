@@ -1,9 +1,6 @@
-use Rattle.std.proofs.Common.{ap₂, ◌∙◌, ◌++◌, sym, subst}
-use Rattle.std.specs.Prelude.{FitsSigned}
-use Rattle.std.specs.Int.{w32}
-use Rattle.file_records.specs.Numbers.{signed_bytes}
-use Rattle.region_file.proofs.PushLaws.{two}
-use Rattle.region_file.proofs.FrontLaws.{lat_again, lat_fits, lon_again, lon_fits}
+use Rattle.plan_base.proofs.Common.{ap₂, ◌∙◌, ◌++◌, sym, subst, FitsSigned, w32}
+use Rattle.file_records.specs.{signed_bytes}
+use Rattle.region_file.proofs.{PushLaws.two, FrontLaws.lat_again, FrontLaws.lat_fits, FrontLaws.lon_again, FrontLaws.lon_fits}
 use Rattle.region_file.proofs.writing.push_place.Goals as goal
 
 pub push_narrow-requires : goal.push_narrow-requires

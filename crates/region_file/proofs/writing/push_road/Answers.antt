@@ -1,9 +1,7 @@
-use Rattle.std.proofs.Common.{ap, ◌∙◌, ◌++◌, ◌∷◌, []}
-use Rattle.std.specs.Int.{w64}
-use Rattle.std.proofs.lemmas.Int.{to_z-of_z}
-use Rattle.plan_base.specs.Modes.{number_of_mode}
-use Rattle.file_records.specs.Numbers.{signed_bytes}
-use Rattle.region_file.specs.Bytes.{place_bytes}
+use Rattle.plan_base.proofs.Common.{ap, ◌∙◌, ◌++◌, ◌∷◌, [], w64, to_z-of_z}
+use Rattle.plan_base.specs.{number_of_mode}
+use Rattle.file_records.specs.{signed_bytes}
+use Rattle.region_file.specs.{place_bytes}
 use Rattle.region_file.proofs.PushLaws.{two}
 use Rattle.region_file.proofs.writing.push_road.Goals as goal
 

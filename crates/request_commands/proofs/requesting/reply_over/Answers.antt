@@ -1,12 +1,8 @@
-use Rattle.std.proofs.Common.{Bor}
-use Rattle.std.proofs.lemmas.Result.{err_from_is_err_and}
-use Rattle.std.specs.Prelude.{option_map}
+use Rattle.plan_base.proofs.Common.{Bor, err_from_is_err_and, option_map}
 use Rattle.hierarchy.specs.declared.hierarchy.Hierarchy.{Hierarchy}
-use Rattle.run_steps.specs.declared.outcome.FileRole.TheVariants.{Requests}
-use Rattle.run_steps.specs.declared.outcome.Outcome.TheVariants.{Done}
-use Rattle.run_steps.specs.Sayings.{Ends}
+use Rattle.run_steps.specs.{declared.outcome.FileRole.TheVariants.Requests, Done, Ends}
 use Rattle.run_steps.proofs.PieceLemmas.{stops_early}
-use Rattle.request_commands.specs.Requests.{IsReply}
+use Rattle.request_commands.specs.{IsReply}
 use Rattle.request_commands.proofs.requesting.reply_over.Goals as goal
 
 pub returns-in_err-backwards : goal.returns-in_err-backwards

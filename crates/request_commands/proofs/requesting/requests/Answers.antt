@@ -1,16 +1,10 @@
-use Rattle.std.proofs.Common.{List, ℕ, Option, Bor}
-use Rattle.std.proofs.lemmas.Result.{err_from_is_err_and}
-use Rattle.std.specs.Prelude.{option_map}
+use Rattle.plan_base.proofs.Common.{List, ℕ, Option, Bor, err_from_is_err_and, option_map}
 use Rattle.plan_base.proofs.MoreWritten.{stays_so}
-use Rattle.hierarchy.specs.Lists.{HierarchyLists}
+use Rattle.hierarchy.specs.{HierarchyLists}
 use Rattle.mode_network.specs.NetworkLists.{NetworkLists}
-use Rattle.run_steps.specs.declared.outcome.FileRole.TheVariants.{Requests}
-use Rattle.run_steps.specs.declared.limits.Limits.{Limits}
-use Rattle.run_steps.specs.InTurn.{AnswersFile}
-use Rattle.run_steps.specs.Sayings.{Saying}
-use Rattle.request_commands.specs.Requests.{IsReply}
-use Rattle.answer_commands.proofs.BothLemmas.{both_fail, on_both}
-use Rattle.answer_commands.proofs.LentLemmas.{lent_sound}
+use Rattle.run_steps.specs.{declared.outcome.FileRole.TheVariants.Requests, declared.limits.Limits.Limits, AnswersFile, Saying}
+use Rattle.request_commands.specs.{IsReply}
+use Rattle.answer_commands.proofs.{BothLemmas.both_fail, BothLemmas.on_both, LentLemmas.lent_sound}
 use Rattle.request_commands.proofs.requesting.requests.Goals as goal
 
 -- what is said behind the region and the hierarchy

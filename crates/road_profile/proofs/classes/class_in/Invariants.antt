@@ -1,7 +1,5 @@
-use Rattle.std.proofs.Common.{◌≡◌, map, drop}
-use Rattle.std.specs.Prelude.{bytes_eq}
-use Rattle.std.specs.Map.{lookup}
-use Rattle.road_profile.specs.Classes.{road}
+use Rattle.plan_base.proofs.Common.{◌≡◌, map, drop, bytes_eq, lookup}
+use Rattle.road_profile.specs.{road}
 use Rattle.road_profile.proofs.classes.class_in.Given as goal
 
 abbrev pub invariant-loop-row : goal.invariant-loop-row

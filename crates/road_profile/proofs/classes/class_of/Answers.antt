@@ -1,4 +1,4 @@
-use Rattle.road_profile.specs.Classes.{class_named}
+use Rattle.road_profile.specs.{class_named}
 use Rattle.road_profile.proofs.ClassLaws.{class_moves}
 use Rattle.road_profile.proofs.classes.class_of.Goals as goal
 

@@ -1,8 +1,5 @@
-use Rattle.std.proofs.Common.{◌≡◌, ◌++◌, drop}
-use Rattle.std.specs.List.{flat_map}
-use Rattle.std.specs.HashMap.{get}
-use Rattle.std.specs.Ordering.{int_eq}
-use Rattle.road_profile.specs.Legs.{neighbours_behind, step_legs}
+use Rattle.plan_base.proofs.Common.{◌≡◌, ◌++◌, drop, flat_map, get, int_eq}
+use Rattle.road_profile.specs.{neighbours_behind, step_legs}
 use Rattle.road_profile.proofs.legs.push_behind.Given as goal
 
 abbrev pub invariant-loop-to : goal.invariant-loop-to

@@ -1,8 +1,5 @@
-use Rattle.std.proofs.Common.{◌≡◌, ◌++◌, take}
-use Rattle.std.specs.List.{flat_map}
-use Rattle.std.specs.HashMap.{get}
-use Rattle.std.specs.Ordering.{int_eq}
-use Rattle.road_profile.specs.Legs.{piece_legs}
+use Rattle.plan_base.proofs.Common.{◌≡◌, ◌++◌, take, flat_map, get, int_eq}
+use Rattle.road_profile.specs.{piece_legs}
 use Rattle.road_profile.proofs.legs.push_pieces.Given as goal
 
 abbrev pub invariant-loop-piece : goal.invariant-loop-piece

@@ -1,7 +1,4 @@
-use Rattle.std.proofs.Common.{refl, sym, ◌∙◌}
-use Rattle.std.proofs.lemmas.List.{append-nil}
-use Rattle.std.specs.HashMap.{get}
-use Rattle.std.specs.Ordering.{int_eq}
+use Rattle.plan_base.proofs.Common.{refl, sym, ◌∙◌, append-nil, get, int_eq}
 use Rattle.road_profile.proofs.ClosedLaws.{way_legs-closed}
 use Rattle.road_profile.proofs.legs.push_way.Goals as goal
 

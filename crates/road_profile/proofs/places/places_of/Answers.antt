@@ -1,5 +1,4 @@
-use Rattle.std.proofs.Common.{◌<◌, length, arith}
-use Rattle.std.proofs.lemmas.List.{take_more}
+use Rattle.plan_base.proofs.Common.{◌<◌, length, arith, take_more}
 use Rattle.road_profile.proofs.PlaceLaws.{place_at-push}
 use Rattle.road_profile.proofs.places.places_of.Goals as goal
 

@@ -1,7 +1,5 @@
-use Rattle.std.proofs.Common.{◌≡◌, ℤ, take}
-use Rattle.std.specs.HashMap.{get}
-use Rattle.std.specs.Ordering.{int_eq}
-use Rattle.road_profile.specs.Legs.{place_of_node}
+use Rattle.plan_base.proofs.Common.{◌≡◌, ℤ, take, get, int_eq}
+use Rattle.road_profile.specs.{place_of_node}
 use Rattle.road_profile.proofs.places.places_of.Given as goal
 
 abbrev pub invariant-loop-node : goal.invariant-loop-node

@@ -1,9 +1,7 @@
-use Rattle.std.proofs.Common.{rules, of_calls}
+use Rattle.plan_base.proofs.Common.{rules, of_calls, answers_always}
 use Rattle.std.proofs.lemmas.Fn.{dedup_same}
-use Rattle.std.proofs.lemmas.List.Sorted.{answers_always}
-use Rattle.plan_base.specs.Modes.{number_of_mode}
-use Rattle.road_profile.proofs.LeastRows.{least_are_arcs}
-use Rattle.road_profile.proofs.RowOrder.{same_key}
+use Rattle.plan_base.specs.{number_of_mode}
+use Rattle.road_profile.proofs.{LeastRows.least_are_arcs, RowOrder.same_key}
 use Rattle.road_profile.proofs.rows.arcs_of.Goals as goal
 
 pub returns : goal.returns

@@ -1,5 +1,4 @@
-use Rattle.std.proofs.Common.{◌∙◌}
-use Rattle.std.specs.Prelude.{bytes_eq}
+use Rattle.plan_base.proofs.Common.{◌∙◌, bytes_eq}
 use Rattle.road_profile.proofs.Lists.{list_any-map}
 use Rattle.road_profile.proofs.tags.is_among.Goals as goal
 

@@ -1,6 +1,4 @@
-use Rattle.std.proofs.Common.{◌≡◌, drop}
-use Rattle.std.specs.Prelude.{bytes_eq}
-use Rattle.std.specs.Map.{lookup}
+use Rattle.plan_base.proofs.Common.{◌≡◌, drop, bytes_eq, lookup}
 use Rattle.road_profile.proofs.tags.value_of.Given as goal
 
 abbrev pub invariant-loop-tag : goal.invariant-loop-tag

@@ -1,11 +1,8 @@
-use Rattle.std.proofs.Common.{inr, sym, subst}
-use Rattle.std.proofs.lemmas.Result.{err_from_is_err_and}
-use Rattle.plan_base.specs.Shelves.{HasRead}
+use Rattle.plan_base.proofs.Common.{inr, sym, subst, err_from_is_err_and}
+use Rattle.plan_base.specs.{HasRead}
 use Rattle.plan_base.proofs.MoreWritten.{stays_so}
-use Rattle.run_steps.specs.Sayings.{most_bytes}
-use Rattle.run_steps.proofs.Steps.{text_fails}
-use Rattle.run_steps.specs.Certificates.{TellsValid}
-use Rattle.run_steps.proofs.CertificateOutcomes.{certificate_fails}
+use Rattle.run_steps.specs.{most_bytes, TellsValid}
+use Rattle.run_steps.proofs.{Steps.text_fails, CertificateOutcomes.certificate_fails}
 use Rattle.run_steps.proofs.certificates.write_verified.Goals as goal
 
 pub returns-in_err-text : goal.returns-in_err-text

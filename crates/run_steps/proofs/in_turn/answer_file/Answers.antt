@@ -1,7 +1,6 @@
-use Rattle.std.proofs.Common.{inl, inr, refl}
-use Rattle.std.proofs.lemmas.Result.{err_from_is_err_and}
+use Rattle.plan_base.proofs.Common.{inl, inr, refl, err_from_is_err_and}
 use Rattle.plan_base.proofs.MoreWritten.{stays_so}
-use Rattle.run_steps.specs.Scene.{scene}
+use Rattle.run_steps.specs.{scene}
 use Rattle.run_steps.proofs.in_turn.answer_file.Goals as goal
 
 pub returns-in_err-write_in_turn : goal.returns-in_err-write_in_turn

@@ -1,16 +1,8 @@
-use Rattle.std.proofs.Common.{◌≡◌, ℕ, ◌<◌, List, [], ◌∷◌, length, rules, arith, subst}
-use Rattle.std.proofs.lemmas.List.{nil_from_length}
-use Rattle.std.proofs.lemmas.Result.{err_from_is_err_and}
-use Rattle.plan_base.specs.Sinks.{SinkMeaning}
-use Rattle.run_steps.specs.declared.outcome.Outcome.{Outcome}
-use Rattle.run_steps.specs.Scene.{scene}
-use Rattle.run_steps.specs.QueryLines.{queries_among}
-use Rattle.run_steps.specs.Blocks.{BlockRule, WroteBlocks}
-use Rattle.run_steps.specs.inside.BlockCauses.{IsBlocksOutcome}
-use Rattle.run_steps.specs.inside.TurnCauses.{IsSumWith}
-use Rattle.run_steps.proofs.PieceLemmas.{last_answered, last_fails, none_last}
+use Rattle.plan_base.proofs.Common.{◌≡◌, ℕ, ◌<◌, List, [], ◌∷◌, length, rules, arith, subst, nil_from_length, err_from_is_err_and}
+use Rattle.plan_base.specs.{SinkMeaning}
+use Rattle.run_steps.specs.{Outcome, scene, queries_among, BlockRule, WroteBlocks, inside.IsBlocksOutcome, inside.IsSumWith}
+use Rattle.run_steps.proofs.{PieceLemmas.last_answered, PieceLemmas.last_fails, PieceLemmas.none_last, in_turn.write_in_turn.Goals.then-not-is_empty+in_ok-answer_line, in_turn.write_in_turn.Goals.else-not-is_empty}
 use Rattle.run_steps.proofs.in_turn.write_in_turn.Goals as goal
-use Rattle.run_steps.proofs.in_turn.write_in_turn.Goals.{then-not-is_empty+in_ok-answer_line, else-not-is_empty}
 
 fails_so : (IsBlock : BlockRule) (mid out : SinkMeaning) (line rest : List ℕ) → line ≡ rest → (outcome : Outcome)
     → IsBlocksOutcome mid out IsBlock (queries_among (line ∷ [])) outcome → IsBlocksOutcome mid out IsBlock (queries_among (rest ∷ [])) outcome

@@ -1,4 +1,4 @@
-use Rattle.run_steps.specs.Scene.{scene}
+use Rattle.run_steps.specs.{scene}
 use Rattle.run_steps.proofs.in_turn.write_in_turn.Given as goal
 
 abbrev pub ghost-answer_pieces : goal.ghost-answer_pieces

@@ -1,7 +1,6 @@
-use Rattle.std.proofs.Common.{ℕ, Option, length, subst}
-use Rattle.mode_network.specs.Rules.{AreInOrder}
-use Rattle.sample_city.specs.Roads.{RoadNodeKey}
-use Rattle.sample_city.specs.Stops.{city_links}
+use Rattle.plan_base.proofs.Common.{ℕ, Option, length, subst}
+use Rattle.mode_network.specs.{AreInOrder}
+use Rattle.sample_city.specs.{RoadNodeKey, city_links}
 use Rattle.sample_city.proofs.city.city_ways.Goals as goal
 
 pub returns-clause-arcs : goal.returns-clause-arcs

@@ -1,9 +1,5 @@
-use Rattle.std.proofs.Common.{◌≡◌, ap, ◌∙◌}
-use Rattle.std.specs.List.{flat_map}
-use Rattle.sample_city.specs.Corners.{corners}
-use Rattle.sample_city.specs.Roads.{nodes_at}
-use Rattle.sample_city.specs.Stops.{city_stop_nodes}
-use Rattle.sample_city.specs.Trips.{city_trips}
+use Rattle.plan_base.proofs.Common.{◌≡◌, ap, ◌∙◌, flat_map}
+use Rattle.sample_city.specs.{corners, nodes_at, city_stop_nodes, city_trips}
 use Rattle.sample_city.proofs.CityLaws.{city_parts}
 use Rattle.sample_city.proofs.city.parts_of.Goals as goal
 

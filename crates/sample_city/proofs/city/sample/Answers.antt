@@ -1,4 +1,4 @@
-use Rattle.std.proofs.Common.{rules}
+use Rattle.plan_base.proofs.Common.{rules}
 use Rattle.sample_city.proofs.KeepLaws.{not_refused}
 use Rattle.sample_city.proofs.city.sample.Goals as goal
 

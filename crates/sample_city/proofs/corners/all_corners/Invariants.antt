@@ -1,6 +1,5 @@
-use Rattle.std.proofs.Common.{◌≡◌, map, take}
-use Rattle.std.specs.List.{flat_map}
-use Rattle.sample_city.specs.Corners.{corner}
+use Rattle.plan_base.proofs.Common.{◌≡◌, map, take, flat_map}
+use Rattle.sample_city.specs.{corner}
 use Rattle.sample_city.proofs.corners.all_corners.Given as goal
 
 abbrev pub invariant-loop-row : goal.invariant-loop-row

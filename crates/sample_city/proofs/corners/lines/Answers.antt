@@ -1,6 +1,4 @@
-use Rattle.std.proofs.Common.{List, ℕ, ◌≡◌, ◌+◌, ◌<◌, ◌++◌, ◌∷◌, [], ◌∙◌, length, ap, sym, subst, arith}
-use Rattle.std.specs.List.{All, range_with_len}
-use Rattle.std.proofs.lemmas.List.FromFn.{length-range_with_len}
+use Rattle.plan_base.proofs.Common.{List, ℕ, ◌≡◌, ◌+◌, ◌<◌, ◌++◌, ◌∷◌, [], ◌∙◌, length, ap, sym, subst, arith, All, range_with_len, length-range_with_len}
 use Rattle.sample_city.proofs.RangeLaws.{below_end, range_more}
 use Rattle.sample_city.proofs.corners.lines.Goals as goal
 

@@ -1,5 +1,4 @@
-use Rattle.std.proofs.Common.{◌≡◌}
-use Rattle.std.specs.List.{range_with_len}
+use Rattle.plan_base.proofs.Common.{◌≡◌, range_with_len}
 use Rattle.sample_city.proofs.corners.lines.Given as goal
 
 abbrev pub invariant-loop-line : goal.invariant-loop-line

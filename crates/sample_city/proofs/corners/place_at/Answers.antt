@@ -1,6 +1,6 @@
-use Rattle.std.proofs.Common.{◌≡◌, ◌+◌, ◌*◌, ℤ, pos, to_z, w64, ◌∙◌, ap, arith}
+use Rattle.plan_base.proofs.Common.{◌≡◌, ◌+◌, ◌*◌, ℤ, pos, to_z, w64, ◌∙◌, ap, arith}
 use Rattle.std.proofs.lemmas.Int.{to_z_pos}
-use Rattle.plan_base.specs.PlaceOf.{place_of}
+use Rattle.plan_base.specs.{place_of}
 use Rattle.sample_city.proofs.corners.place_at.Goals as goal
 
 pub returns : goal.returns

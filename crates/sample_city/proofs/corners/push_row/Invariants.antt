@@ -1,5 +1,5 @@
-use Rattle.std.proofs.Common.{◌≡◌, ◌++◌, map, take}
-use Rattle.sample_city.specs.Corners.{corner}
+use Rattle.plan_base.proofs.Common.{◌≡◌, ◌++◌, map, take}
+use Rattle.sample_city.specs.{corner}
 use Rattle.sample_city.proofs.corners.push_row.Given as goal
 
 abbrev pub invariant-loop-column : goal.invariant-loop-column

@@ -1,7 +1,5 @@
-use Rattle.std.proofs.Common.{◌≡◌, ◌<◌, ◌≤◌, length, take}
-use Rattle.std.specs.Prelude.{filter}
-use Rattle.std.specs.List.{All}
-use Rattle.sample_city.specs.Corners.{is_stop_line}
+use Rattle.plan_base.proofs.Common.{◌≡◌, ◌<◌, ◌≤◌, length, take, filter, All}
+use Rattle.sample_city.specs.{is_stop_line}
 use Rattle.sample_city.proofs.corners.stop_lines.Given as goal
 
 abbrev pub invariant-loop-line : goal.invariant-loop-line

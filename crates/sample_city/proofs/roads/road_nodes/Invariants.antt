@@ -1,6 +1,5 @@
-use Rattle.std.proofs.Common.{◌≡◌, take}
-use Rattle.std.specs.List.{flat_map}
-use Rattle.sample_city.specs.Roads.{nodes_at}
+use Rattle.plan_base.proofs.Common.{◌≡◌, take, flat_map}
+use Rattle.sample_city.specs.{nodes_at}
 use Rattle.sample_city.proofs.roads.road_nodes.Given as goal
 
 abbrev pub invariant-loop-at : goal.invariant-loop-at

@@ -1,6 +1,6 @@
 use mathlib.Core.Path.{fun_ext}
-use Rattle.std.specs.HashMap.{get}
-use Rattle.sample_city.specs.Roads.{is_same_road_key, road_number}
+use Rattle.plan_base.proofs.Common.{get}
+use Rattle.sample_city.specs.{is_same_road_key, road_number}
 use Rattle.sample_city.proofs.NumberLaws.{all_noted}
 use Rattle.sample_city.proofs.roads.road_numbers.Goals as goal
 

@@ -1,7 +1,5 @@
-use Rattle.std.proofs.Common.{◌≡◌, ◌+◌, length}
-use Rattle.std.specs.HashMap.{get}
-use Rattle.std.specs.Option.{option_or}
-use Rattle.sample_city.specs.Roads.{RoadNodeKey, is_same_road_key, road_number_from}
+use Rattle.plan_base.proofs.Common.{◌≡◌, ◌+◌, length, get, option_or}
+use Rattle.sample_city.specs.{RoadNodeKey, is_same_road_key, road_number_from}
 use Rattle.sample_city.proofs.roads.road_numbers.Given as goal
 
 abbrev pub decreases-loop-rest : goal.decreases-loop-rest

@@ -1,7 +1,5 @@
-use Rattle.std.proofs.Common.{◌≡◌, take}
-use Rattle.std.specs.Prelude.{option_to_list}
-use Rattle.std.specs.List.{flat_map}
-use Rattle.sample_city.specs.Stops.{corner_stop}
+use Rattle.plan_base.proofs.Common.{◌≡◌, take, option_to_list, flat_map}
+use Rattle.sample_city.specs.{corner_stop}
 use Rattle.sample_city.proofs.stops.city_stops.Given as goal
 
 abbrev pub invariant-loop-at : goal.invariant-loop-at

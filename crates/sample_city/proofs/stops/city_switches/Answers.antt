@@ -1,4 +1,4 @@
-use Rattle.std.proofs.Common.{refl}
+use Rattle.plan_base.proofs.Common.{refl}
 use Rattle.sample_city.proofs.stops.city_switches.Goals as goal
 
 pub returns : goal.returns

@@ -1,5 +1,5 @@
-use Rattle.std.proofs.Common.{◌≡◌, map}
-use Rattle.sample_city.specs.declared.stops.CityStop.{CityStop}
+use Rattle.plan_base.proofs.Common.{◌≡◌, map}
+use Rattle.sample_city.specs.{CityStop}
 use Rattle.sample_city.proofs.stops.names_of.Given as goal
 
 abbrev pub invariant-loop-stop : goal.invariant-loop-stop

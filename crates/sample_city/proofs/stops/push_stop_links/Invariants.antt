@@ -1,7 +1,5 @@
-use Rattle.std.proofs.Common.{◌≡◌, ◌+◌, ◌++◌, length}
-use Rattle.std.specs.HashMap.{get}
-use Rattle.sample_city.specs.Roads.{is_same_road_key}
-use Rattle.sample_city.specs.Stops.{city_stop_links}
+use Rattle.plan_base.proofs.Common.{◌≡◌, ◌+◌, ◌++◌, length, get}
+use Rattle.sample_city.specs.{is_same_road_key, city_stop_links}
 use Rattle.sample_city.proofs.stops.push_stop_links.Given as goal
 
 abbrev pub decreases-loop-rest : goal.decreases-loop-rest

@@ -1,4 +1,4 @@
-use Rattle.std.proofs.Common.{◌≡◌, ◌+◌, ◌++◌, length}
+use Rattle.plan_base.proofs.Common.{◌≡◌, ◌+◌, ◌++◌, length}
 use Rattle.sample_city.specs.Stops as spec
 use Rattle.sample_city.proofs.stops.stop_nodes.Given as goal
 

@@ -1,7 +1,5 @@
-use Rattle.std.proofs.Common.{◌≡◌, take}
-use Rattle.std.specs.HashMap.{get}
-use Rattle.std.specs.List.{flat_map}
-use Rattle.sample_city.specs.Roads.{corner_arcs, is_same_road_key}
+use Rattle.plan_base.proofs.Common.{◌≡◌, take, get, flat_map}
+use Rattle.sample_city.specs.{corner_arcs, is_same_road_key}
 use Rattle.sample_city.proofs.streets.city_arcs.Given as goal
 
 abbrev pub invariant-loop-at : goal.invariant-loop-at

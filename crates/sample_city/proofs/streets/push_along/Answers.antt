@@ -1,4 +1,4 @@
-use Rattle.std.proofs.Common.{◌+◌, lt-ltb, arith}
+use Rattle.plan_base.proofs.Common.{◌+◌, lt-ltb, arith}
 use Rattle.sample_city.proofs.streets.push_along.Goals as goal
 
 pub returns-in-Row : goal.returns-in-Row

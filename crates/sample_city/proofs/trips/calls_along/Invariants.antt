@@ -1,4 +1,4 @@
-use Rattle.std.proofs.Common.{◌≡◌, ◌+◌, ◌*◌, ◌<◌, ◌++◌, length}
+use Rattle.plan_base.proofs.Common.{◌≡◌, ◌+◌, ◌*◌, ◌<◌, ◌++◌, length}
 use Rattle.sample_city.specs.Trips as spec
 use Rattle.sample_city.proofs.trips.calls_along.Given as goal
 

@@ -1,4 +1,4 @@
-use Rattle.std.proofs.Common.{◌≡◌, take}
+use Rattle.plan_base.proofs.Common.{◌≡◌, take}
 use Rattle.sample_city.specs.Trips as spec
 use Rattle.sample_city.proofs.trips.line_stops.Given as goal
 

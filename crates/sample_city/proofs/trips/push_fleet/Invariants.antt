@@ -1,5 +1,4 @@
-use Rattle.std.proofs.Common.{◌≡◌, ◌++◌, take}
-use Rattle.std.specs.List.{flat_map}
+use Rattle.plan_base.proofs.Common.{◌≡◌, ◌++◌, take, flat_map}
 use Rattle.sample_city.specs.Trips as spec
 use Rattle.sample_city.proofs.trips.push_fleet.Given as goal
 

@@ -1,6 +1,5 @@
-use Rattle.std.proofs.Common.{sym, subst}
-use Rattle.std.proofs.lemmas.Result.{IfOk-weaker}
-use Rattle.sample_city.specs.SampleCity.{IsSampleCity}
+use Rattle.plan_base.proofs.Common.{sym, subst, IfOk-weaker}
+use Rattle.sample_city.specs.{IsSampleCity}
 use Rattle.sample_command.proofs.city.city_read_back.Goals as goal
 
 pub returns : goal.returns

@@ -1,5 +1,5 @@
 use Rattle.run_steps.proofs.Steps.{text_ends}
-use Rattle.sample_command.specs.Summary.{IsSummary}
+use Rattle.sample_command.specs.{IsSummary}
 use Rattle.sample_command.proofs.summary.sample.Goals as goal
 
 pub returns : goal.returns

@@ -1,6 +1,5 @@
-use Rattle.std.proofs.Common.{arith}
-use Rattle.std.proofs.lemmas.Result.{IfOk-weaker}
-use Rattle.sample_command.specs.Queries.{sampled_queries}
+use Rattle.plan_base.proofs.Common.{arith, IfOk-weaker}
+use Rattle.sample_command.specs.{sampled_queries}
 use Rattle.sample_command.proofs.TimeLaws.{same_times}
 use Rattle.sample_command.proofs.summary.summary_of.Goals as goal
 

@@ -1,6 +1,6 @@
-use Rattle.std.proofs.Common.{ℕ, List, length, subst, option_map}
-use Rattle.planning.specs.Settled.{IsSettledCount}
-use Rattle.sample_command.specs.Times.{IsTravelTime, labels_counted, time_from}
+use Rattle.plan_base.proofs.Common.{ℕ, List, length, subst, option_map}
+use Rattle.planning.specs.{IsSettledCount}
+use Rattle.sample_command.specs.{IsTravelTime, labels_counted, time_from}
 use Rattle.sample_command.proofs.TimeLaws.{time_found, labels_found}
 use Rattle.sample_command.proofs.times.time_of.Goals as goal
 

@@ -1,7 +1,6 @@
-use Rattle.std.proofs.Common.{◌≡◌, ℕ, List, ◌∙◌, sym, subst, refl, arith, option_map}
-use Rattle.planning.specs.Settled.{IsSettledCount, Settled}
-use Rattle.sample_command.specs.Queries.{lines_before, query_line}
-use Rattle.sample_command.specs.Times.{AreTimes, IsTravelTime}
+use Rattle.plan_base.proofs.Common.{◌≡◌, ℕ, List, ◌∙◌, sym, subst, refl, arith, option_map}
+use Rattle.planning.specs.{IsSettledCount, Settled.Settled}
+use Rattle.sample_command.specs.{lines_before, query_line, AreTimes, IsTravelTime}
 use Rattle.sample_command.proofs.TimeLaws.{no_lines, lines_more, times_more, settled_more, total_more, time_below}
 use Rattle.sample_command.proofs.times.times_of.Goals as goal
 

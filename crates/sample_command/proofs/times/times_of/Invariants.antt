@@ -1,7 +1,6 @@
-use Rattle.std.proofs.Common.{◌*◌, ◌^◌, ◌≤◌, option_map}
+use Rattle.plan_base.proofs.Common.{◌*◌, ◌^◌, ◌≤◌, option_map}
 use Rattle.planning.specs.Settled.{Settled}
-use Rattle.sample_command.specs.Queries.{lines_before}
-use Rattle.sample_command.specs.Times.{AreTimes, total_time}
+use Rattle.sample_command.specs.{lines_before, AreTimes, total_time}
 use Rattle.sample_command.proofs.times.times_of.Given as goal
 
 abbrev pub invariant-loop-k : goal.invariant-loop-k

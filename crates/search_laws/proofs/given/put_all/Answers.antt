@@ -1,5 +1,4 @@
-use Rattle.std.proofs.Common.{◌<◌, length, None, Some, inl, inr, ◌∙◌, ap, sym}
-use Rattle.std.proofs.lemmas.List.{get_or_default}
+use Rattle.plan_base.proofs.Common.{◌<◌, length, None, Some, inl, inr, ◌∙◌, ap, sym, get_or_default}
 use Rattle.search_laws.proofs.given.put_all.Goals.{in-Some, in_default}
 use Rattle.search_laws.proofs.given.put_all.Goals as goal
 

@@ -1,6 +1,5 @@
-use Rattle.std.proofs.Common.{◌⊎◌, Some}
-use Rattle.std.specs.Prelude.{Contains}
-use Rattle.search_laws.specs.declared.given.GivenRun.{GivenRun}
+use Rattle.plan_base.proofs.Common.{◌⊎◌, Some, Contains}
+use Rattle.search_laws.specs.{GivenRun}
 use Rattle.search_laws.proofs.given.put_all.Given as goal
 
 abbrev pub invariant-loop-run : goal.invariant-loop-run

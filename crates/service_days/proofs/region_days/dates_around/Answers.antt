@@ -1,7 +1,6 @@
-use Rattle.std.proofs.Common.{◌++◌, ◌∷◌, [], sym, ap, ap₂, ◌∙◌, arith}
+use Rattle.plan_base.proofs.Common.{◌++◌, ◌∷◌, [], sym, ap, ap₂, ◌∙◌, arith}
 use Rattle.jiff_core.proofs.SignedLemmas.{signed_arith}
-use Rattle.service_days.specs.Dates.{date_after, earlier_date}
-use Rattle.service_days.specs.Days.{date_on}
+use Rattle.service_days.specs.{date_after, earlier_date, date_on}
 use Rattle.service_days.proofs.PlainDays.{later_date-suc, later_date-zero, one_more}
 use Rattle.service_days.proofs.region_days.dates_around.Goals as goal
 

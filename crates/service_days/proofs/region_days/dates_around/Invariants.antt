@@ -1,7 +1,5 @@
-use Rattle.std.proofs.Common.{◌≡◌, map, pos, ◌+ℤ◌, ◌≤ℤ◌}
-use Rattle.std.specs.List.{range_with_len}
-use Rattle.service_days.specs.Days.{date_on}
-use Rattle.service_days.specs.inside.Numbers.{number_of_date}
+use Rattle.plan_base.proofs.Common.{◌≡◌, map, pos, ◌+ℤ◌, ◌≤ℤ◌, range_with_len}
+use Rattle.service_days.specs.{date_on, inside.number_of_date}
 use Rattle.service_days.proofs.region_days.dates_around.Given as goal
 
 -- the dates so far, and the next one, a few years on at most

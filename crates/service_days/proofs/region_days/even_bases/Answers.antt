@@ -1,4 +1,4 @@
-use Rattle.std.proofs.Common.{◌*◌, ◌++◌, ◌∷◌, [], sym, ap, ◌∙◌}
+use Rattle.plan_base.proofs.Common.{◌*◌, ◌++◌, ◌∷◌, [], sym, ap, ◌∙◌}
 use Rattle.service_days.proofs.PlainDays.{one_more}
 use Rattle.service_days.proofs.region_days.even_bases.Goals as goal
 

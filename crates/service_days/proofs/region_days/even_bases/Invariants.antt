@@ -1,5 +1,4 @@
-use Rattle.std.proofs.Common.{◌≡◌, ◌*◌, map}
-use Rattle.std.specs.List.{range_with_len}
+use Rattle.plan_base.proofs.Common.{◌≡◌, ◌*◌, map, range_with_len}
 use Rattle.service_days.proofs.region_days.even_bases.Given as goal
 
 abbrev pub invariant-loop-day : goal.invariant-loop-day

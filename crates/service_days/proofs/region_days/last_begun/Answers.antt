@@ -1,5 +1,5 @@
-use Rattle.std.proofs.Common.{rules, leb}
-use Rattle.std.proofs.lemmas.List.Sorted.{IsPartitionedBy-leb, IsPartitionPoint-from_clause, IsNonDecreasingBy-from_default}
+use Rattle.plan_base.proofs.Common.{rules, leb, IsPartitionedBy-leb, IsPartitionPoint-from_clause}
+use Rattle.std.proofs.lemmas.List.Sorted.{IsNonDecreasingBy-from_default}
 use Rattle.service_days.proofs.RisingLists.{is_after_last, non_decreasing, IsAfterLast}
 use Rattle.service_days.proofs.region_days.last_begun.Goals as goal
 

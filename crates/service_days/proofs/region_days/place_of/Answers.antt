@@ -1,4 +1,4 @@
-use Rattle.std.proofs.Common.{sym, arith, Ok, Err}
+use Rattle.plan_base.proofs.Common.{sym, arith, Ok, Err}
 use Rattle.std.proofs.lemmas.List.Sorted.{searched}
 use Rattle.service_days.proofs.RisingLists.{found_at, not_found, non_decreasing}
 use Rattle.service_days.proofs.region_days.place_of.Goals as goal

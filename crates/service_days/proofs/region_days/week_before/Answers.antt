@@ -1,6 +1,6 @@
-use Rattle.std.proofs.Common.{sym, ap, ◌∙◌, arith}
+use Rattle.plan_base.proofs.Common.{sym, ap, ◌∙◌, arith}
 use Rattle.jiff_core.proofs.SignedLemmas.{signed_arith}
-use Rattle.service_days.specs.Dates.{date_before}
+use Rattle.service_days.specs.{date_before}
 use Rattle.service_days.proofs.PlainDays.{number_again, earlier_date-suc, earlier_date-zero, first_year}
 use Rattle.service_days.proofs.region_days.week_before.Goals as goal
 

@@ -1,6 +1,5 @@
-use Rattle.std.proofs.Common.{◌≡◌, pos, ◌+ℤ◌, ◌≤ℤ◌}
-use Rattle.service_days.specs.Dates.{earlier_date}
-use Rattle.service_days.specs.inside.Numbers.{number_of_date}
+use Rattle.plan_base.proofs.Common.{◌≡◌, pos, ◌+ℤ◌, ◌≤ℤ◌}
+use Rattle.service_days.specs.{earlier_date, inside.number_of_date}
 use Rattle.service_days.proofs.region_days.week_before.Given as goal
 
 -- so many days before the first date, and not many years

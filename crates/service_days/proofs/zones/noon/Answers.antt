@@ -1,9 +1,8 @@
-use Rattle.std.proofs.Common.{◌≡◌, refl, sym, ap, ap₂, ◌∙◌, arith, ℤ, pos, ◌+ℤ◌, ◌-ℤ◌, ◌*ℤ◌, FitsSigned, w32, w64}
-use Rattle.std.proofs.lemmas.Int.{to_z-of_z}
+use Rattle.plan_base.proofs.Common.{◌≡◌, refl, sym, ap, ap₂, ◌∙◌, arith, ℤ, pos, ◌+ℤ◌, ◌-ℤ◌, ◌*ℤ◌, FitsSigned, w32, w64, to_z-of_z}
 use Rattle.jiff_core.proofs.SignedLemmas.{signed_arith}
 use Rattle.jiff_core.specs.Timestamp.{nanos_of_seconds}
 use Rattle.jiff_tz.specs.Ambiguous.{compatible_offset}
-use Rattle.service_days.specs.Dates.{epoch_day_of}
+use Rattle.service_days.specs.{epoch_day_of}
 use Rattle.service_days.proofs.Noons.{epoch_day_is, noon_offsets_are, wall_noon_is, noon_seconds_is}
 use Rattle.service_days.proofs.zones.noon.Goals as goal
 

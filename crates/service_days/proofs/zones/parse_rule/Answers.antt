@@ -1,6 +1,5 @@
-use Rattle.std.proofs.Common.{sym, ap, ◌∙◌, if◌then◌else◌, None}
-use Rattle.std.specs.Option.{option_map}
-use Rattle.service_days.specs.Zones.{read_zone, zone_of}
+use Rattle.plan_base.proofs.Common.{sym, ap, ◌∙◌, if◌then◌else◌, None, option_map}
+use Rattle.service_days.specs.{read_zone, zone_of}
 use Rattle.service_days.proofs.Noons.{parsed_is}
 use Rattle.service_days.proofs.zones.parse_rule.Goals as goal
 

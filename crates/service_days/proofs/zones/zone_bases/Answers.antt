@@ -1,9 +1,7 @@
-use Rattle.std.proofs.Common.{◌+◌, ◌-◌, ◌/◌, ◌++◌, ◌∷◌, [], ◌-ℤ◌, sym, ap₂, ◌∙◌, arith, rules, FitsSigned, w64, length, ℤ, unsigned_abs}
-use Rattle.std.proofs.lemmas.Int.{to_z-of_z}
+use Rattle.plan_base.proofs.Common.{◌+◌, ◌-◌, ◌/◌, ◌++◌, ◌∷◌, [], ◌-ℤ◌, sym, ap₂, ◌∙◌, arith, rules, FitsSigned, w64, length, ℤ, unsigned_abs, to_z-of_z}
 use Rattle.jiff_core.proofs.SignedLemmas.{signed_arith}
-use Rattle.service_days.specs.Zones.{have_day_lengths, zone_base, zone_of, is_day_length}
-use Rattle.service_days.proofs.PlainDays.{one_more}
-use Rattle.service_days.proofs.ZoneDays.{have_day_lengths-zero, have_day_lengths-more, lengths_fail, at_next_noon, and_fails, and_holds}
+use Rattle.service_days.specs.{have_day_lengths, zone_base, zone_of, is_day_length}
+use Rattle.service_days.proofs.{PlainDays.one_more, ZoneDays.have_day_lengths-zero, ZoneDays.have_day_lengths-more, ZoneDays.lengths_fail, ZoneDays.at_next_noon, ZoneDays.and_fails, ZoneDays.and_holds}
 use Rattle.service_days.proofs.zones.zone_bases.Goals as goal
 
 pub loop-day-init : goal.loop-day-init

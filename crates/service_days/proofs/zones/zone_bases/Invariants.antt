@@ -1,7 +1,6 @@
-use Rattle.std.proofs.Common.{◌≡◌, map, true}
-use Rattle.std.specs.List.{range_with_len}
+use Rattle.plan_base.proofs.Common.{◌≡◌, map, true, range_with_len}
 use Rattle.service_days.proofs.ZoneDays.{IsAtNoon}
-use Rattle.service_days.specs.Zones.{have_day_lengths, zone_base, zone_of}
+use Rattle.service_days.specs.{have_day_lengths, zone_base, zone_of}
 use Rattle.service_days.proofs.zones.zone_bases.Given as goal
 
 -- the bases of the days so far, which have 22 to 26 hours, and the noon of the next one

@@ -1,6 +1,5 @@
-use Rattle.std.proofs.lemmas.List.Elements.{All-push}
-use Rattle.timetable_arcs.specs.Patterns.{plain_table}
-use Rattle.timetable_arcs.specs.inside.Sorting.{IsPattern}
+use Rattle.plan_base.proofs.Common.{All-push}
+use Rattle.timetable_arcs.specs.{plain_table, inside.IsPattern}
 use Rattle.timetable_arcs.proofs.PatternLemmas.{put_behind, put_first, sum_behind}
 use Rattle.timetable_arcs.proofs.patterns.put.Goals as goal
 

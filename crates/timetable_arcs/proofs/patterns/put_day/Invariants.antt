@@ -1,8 +1,5 @@
-use Rattle.std.proofs.Common.{◌≡◌, ℕ, ◌+◌, take}
-use Rattle.std.specs.Prelude.{All, sum_by}
-use Rattle.timetable_arcs.specs.declared.trips.Instance.{Instance}
-use Rattle.timetable_arcs.specs.Patterns.{plain_table}
-use Rattle.timetable_arcs.specs.inside.Sorting.{AreLastPuts, IsPattern, sum_all, weight_on}
+use Rattle.plan_base.proofs.Common.{◌≡◌, ℕ, ◌+◌, take, All, sum_by}
+use Rattle.timetable_arcs.specs.{Instance, plain_table, inside.AreLastPuts, inside.IsPattern, inside.sum_all, inside.weight_on}
 use Rattle.timetable_arcs.proofs.patterns.put_day.Given as goal
 
 abbrev pub invariant-loop-trip : goal.invariant-loop-trip

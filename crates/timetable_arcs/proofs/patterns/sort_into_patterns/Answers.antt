@@ -1,8 +1,6 @@
-use Rattle.std.proofs.Common.{ℕ, ◌+◌, ◌∙◌, ap, sym, arith}
-use Rattle.std.specs.Prelude.{sum_by}
-use Rattle.timetable_arcs.specs.inside.Sorting.{runs_from, weight_on}
-use Rattle.timetable_arcs.proofs.DayRunLemmas.{no_days, day_in_order}
-use Rattle.timetable_arcs.proofs.PatternLemmas.{none_put}
+use Rattle.plan_base.proofs.Common.{ℕ, ◌+◌, ◌∙◌, ap, sym, arith, sum_by}
+use Rattle.timetable_arcs.specs.inside.{runs_from, weight_on}
+use Rattle.timetable_arcs.proofs.{DayRunLemmas.no_days, DayRunLemmas.day_in_order, PatternLemmas.none_put}
 use Rattle.timetable_arcs.proofs.patterns.sort_into_patterns.Goals as goal
 
 pub loop-day-init : goal.loop-day-init

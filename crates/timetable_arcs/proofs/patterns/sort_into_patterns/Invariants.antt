@@ -1,8 +1,5 @@
-use Rattle.std.proofs.Common.{◌≡◌, ℕ}
-use Rattle.std.specs.Prelude.{All, sum_by}
-use Rattle.timetable_arcs.specs.declared.trips.Instance.{Instance}
-use Rattle.timetable_arcs.specs.Patterns.{plain_table}
-use Rattle.timetable_arcs.specs.inside.Sorting.{AreLastPuts, IsPattern, sum_all, runs_from}
+use Rattle.plan_base.proofs.Common.{◌≡◌, ℕ, All, sum_by}
+use Rattle.timetable_arcs.specs.{Instance, plain_table, inside.AreLastPuts, inside.IsPattern, inside.sum_all, inside.runs_from}
 use Rattle.timetable_arcs.proofs.patterns.sort_into_patterns.Given as goal
 
 abbrev pub invariant-loop-day : goal.invariant-loop-day

@@ -1,5 +1,5 @@
-use Rattle.std.proofs.Common.{◌≡◌, length}
-use Rattle.timetable_arcs.specs.TripRules.{goes_on}
+use Rattle.plan_base.proofs.Common.{◌≡◌, length}
+use Rattle.timetable_arcs.specs.{goes_on}
 use Rattle.timetable_arcs.proofs.rules.goes_on.Given as goal
 
 abbrev pub invariant-loop-rest : goal.invariant-loop-rest

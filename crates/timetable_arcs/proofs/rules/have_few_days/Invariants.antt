@@ -1,5 +1,4 @@
-use Rattle.std.proofs.Common.{◌<◌, ◌^◌}
-use Rattle.std.specs.List.{AllWithin}
+use Rattle.plan_base.proofs.Common.{◌<◌, ◌^◌, AllWithin}
 use Rattle.timetable_arcs.proofs.rules.have_few_days.Given as goal
 
 abbrev pub invariant-loop-trip : goal.invariant-loop-trip

@@ -1,5 +1,5 @@
-use Rattle.std.proofs.Common.{◌≡◌, length, nat_lt}
-use Rattle.timetable_arcs.specs.TripRules.{calls_of}
+use Rattle.plan_base.proofs.Common.{◌≡◌, length, nat_lt}
+use Rattle.timetable_arcs.specs.{calls_of}
 use Rattle.timetable_arcs.proofs.rules.have_more_calls.Given as goal
 
 abbrev pub invariant-loop-rest : goal.invariant-loop-rest

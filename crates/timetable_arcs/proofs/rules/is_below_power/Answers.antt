@@ -1,5 +1,4 @@
-use Rattle.std.proofs.Common.{◌∙◌, sym}
-use Rattle.std.proofs.lemmas.Bool.{le-leb}
+use Rattle.plan_base.proofs.Common.{◌∙◌, sym, le-leb}
 use Rattle.timetable_arcs.proofs.DayLemmas.{below_any, quotient_below}
 use Rattle.timetable_arcs.proofs.rules.is_below_power.Goals as goal
 

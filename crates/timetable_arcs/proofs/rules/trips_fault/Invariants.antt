@@ -1,5 +1,5 @@
-use Rattle.std.proofs.Common.{◌≡◌, ◌≤◌, ◌<◌, ◌+◌, ◌^◌, length}
-use Rattle.timetable_arcs.specs.TripRules.{calls_of, trips_fault}
+use Rattle.plan_base.proofs.Common.{◌≡◌, ◌≤◌, ◌<◌, ◌+◌, ◌^◌, length}
+use Rattle.timetable_arcs.specs.{calls_of, trips_fault}
 use Rattle.timetable_arcs.proofs.rules.trips_fault.Given as goal
 
 abbrev pub invariant-loop-rest : goal.invariant-loop-rest

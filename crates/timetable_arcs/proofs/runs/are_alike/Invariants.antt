@@ -1,7 +1,5 @@
-use Rattle.std.proofs.Common.{◌<◌, ℕ}
-use Rattle.std.specs.Prelude.{slice_index_or}
-use Rattle.timetable_arcs.specs.declared.trips.Call.{Call}
-use Rattle.timetable_arcs.specs.Patterns.{IsAlike}
+use Rattle.plan_base.proofs.Common.{◌<◌, ℕ, slice_index_or}
+use Rattle.timetable_arcs.specs.{Call, IsAlike}
 use Rattle.timetable_arcs.proofs.runs.are_alike.Given as goal
 
 abbrev pub invariant-loop-k : goal.invariant-loop-k

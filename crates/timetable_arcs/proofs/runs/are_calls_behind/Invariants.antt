@@ -1,6 +1,5 @@
-use Rattle.std.proofs.Common.{◌<◌, ◌≤◌, ℕ}
-use Rattle.std.specs.Prelude.{slice_index_or}
-use Rattle.timetable_arcs.specs.Patterns.{no_call}
+use Rattle.plan_base.proofs.Common.{◌<◌, ◌≤◌, ℕ, slice_index_or}
+use Rattle.timetable_arcs.specs.{no_call}
 use Rattle.timetable_arcs.proofs.runs.are_calls_behind.Given as goal
 
 abbrev pub invariant-loop-k : goal.invariant-loop-k

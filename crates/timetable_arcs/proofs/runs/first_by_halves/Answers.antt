@@ -1,8 +1,6 @@
-use Rattle.std.proofs.Common.{rules, of_calls, nat_lt}
-use Rattle.std.proofs.lemmas.Fn.{always_returns_same}
+use Rattle.plan_base.proofs.Common.{rules, of_calls, nat_lt, always_returns_same}
 use Rattle.std.proofs.lemmas.List.Sorted.{IsPartitionedBy-ltb}
-use Rattle.timetable_arcs.specs.declared.trips.Instance.{Instance}
-use Rattle.timetable_arcs.specs.Patterns.{plain_table, departs}
+use Rattle.timetable_arcs.specs.{Instance, plain_table, departs}
 use Rattle.timetable_arcs.proofs.RunLemmas.{found_from}
 use Rattle.timetable_arcs.proofs.runs.first_by_halves.Goals as goal
 

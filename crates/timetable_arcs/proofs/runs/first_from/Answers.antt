@@ -1,5 +1,4 @@
-use Rattle.timetable_arcs.specs.declared.trips.Instance.{Instance}
-use Rattle.timetable_arcs.specs.Patterns.{plain_table, departs}
+use Rattle.timetable_arcs.specs.{Instance, plain_table, departs}
 use Rattle.timetable_arcs.proofs.RunLemmas.{found_at_hint}
 use Rattle.timetable_arcs.proofs.runs.first_from.Goals as goal
 

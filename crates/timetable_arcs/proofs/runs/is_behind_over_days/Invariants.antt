@@ -1,5 +1,5 @@
-use Rattle.std.proofs.Common.{◌<◌, ◌≤◌, ℕ}
-use Rattle.timetable_arcs.specs.Patterns.{plain_table, arrives, departs}
+use Rattle.plan_base.proofs.Common.{◌<◌, ◌≤◌, ℕ}
+use Rattle.timetable_arcs.specs.{plain_table, arrives, departs}
 use Rattle.timetable_arcs.proofs.runs.is_behind_over_days.Given as goal
 
 abbrev pub invariant-loop-k : goal.invariant-loop-k

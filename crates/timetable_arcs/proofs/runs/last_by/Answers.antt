@@ -1,11 +1,5 @@
-use Rattle.std.proofs.Common.{◌≡◌, ◌∙◌, ◌-◌, length, take, rules, of_calls, arith, nat_le}
-use Rattle.std.specs.Prelude.{slice_get}
-use Rattle.std.proofs.lemmas.Fn.{always_returns_same}
-use Rattle.std.proofs.lemmas.Grind.{common_steps}
-use Rattle.std.proofs.lemmas.Option.{gets}
-use Rattle.std.proofs.lemmas.List.Sorted.{IsPartitionedBy-leb}
-use Rattle.timetable_arcs.specs.declared.trips.Instance.{Instance}
-use Rattle.timetable_arcs.specs.Patterns.{plain_table, arrives}
+use Rattle.plan_base.proofs.Common.{◌≡◌, ◌∙◌, ◌-◌, length, take, rules, of_calls, arith, nat_le, slice_get, always_returns_same, common_steps, gets, IsPartitionedBy-leb}
+use Rattle.timetable_arcs.specs.{Instance, plain_table, arrives}
 use Rattle.timetable_arcs.proofs.RunLemmas.{found_by}
 use Rattle.timetable_arcs.proofs.runs.last_by.Goals as goal
 

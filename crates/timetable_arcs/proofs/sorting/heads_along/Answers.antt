@@ -1,5 +1,5 @@
-use Rattle.std.proofs.Common.{subst, sym}
-use Rattle.timetable_arcs.specs.inside.Sorting.{AreHeads}
+use Rattle.plan_base.proofs.Common.{subst, sym}
+use Rattle.timetable_arcs.specs.inside.{AreHeads}
 use Rattle.timetable_arcs.proofs.HeadLemmas.{heads_set, heads_themselves}
 use Rattle.timetable_arcs.proofs.sorting.heads_along.Goals as goal
 

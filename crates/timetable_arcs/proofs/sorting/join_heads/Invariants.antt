@@ -1,4 +1,4 @@
-use Rattle.timetable_arcs.specs.inside.Sorting.{AreHeads}
+use Rattle.timetable_arcs.specs.inside.{AreHeads}
 use Rattle.timetable_arcs.proofs.sorting.join_heads.Given as goal
 
 abbrev pub invariant-loop-trip : goal.invariant-loop-trip

@@ -1,4 +1,4 @@
-use Rattle.std.proofs.Common.{◌∷◌, ◌++◌, [], ℕ, List, ◌+◌, ◌≡◌, ◌∙◌, ap, sym, arith}
+use Rattle.plan_base.proofs.Common.{◌∷◌, ◌++◌, [], ℕ, List, ◌+◌, ◌≡◌, ◌∙◌, ap, sym, arith}
 use Rattle.timetable_arcs.proofs.DayRunLemmas.{range_more}
 use Rattle.timetable_arcs.proofs.sorting.places_below.Goals as goal
 

@@ -1,5 +1,4 @@
-use Rattle.std.proofs.Common.{◌≡◌}
-use Rattle.std.specs.List.{range_with_len}
+use Rattle.plan_base.proofs.Common.{◌≡◌, range_with_len}
 use Rattle.timetable_arcs.proofs.sorting.places_below.Given as goal
 
 abbrev pub invariant-loop-place : goal.invariant-loop-place

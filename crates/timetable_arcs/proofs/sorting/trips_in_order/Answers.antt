@@ -1,5 +1,4 @@
-use Rattle.std.proofs.Common.{List, ℕ, subst}
-use Rattle.std.specs.Prelude.{IsPermutation}
+use Rattle.plan_base.proofs.Common.{List, ℕ, subst, IsPermutation}
 use Rattle.timetable_arcs.proofs.sorting.trips_in_order.Goals as goal
 
 pub returns : goal.returns

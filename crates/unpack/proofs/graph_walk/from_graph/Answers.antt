@@ -1,6 +1,5 @@
-use Rattle.std.proofs.Common.{Result, Ok, Err}
-use Rattle.std.specs.Prelude.{IfOk}
-use Rattle.unpack.specs.Unpacking.{node_after, arrival_after}
+use Rattle.plan_base.proofs.Common.{Result, Ok, Err, IfOk}
+use Rattle.unpack.specs.{node_after, arrival_after}
 use Rattle.unpack.proofs.PhaseLemmas.{plain_unpacked}
 use Rattle.unpack.proofs.graph_walk.from_graph.Goals as goal
 

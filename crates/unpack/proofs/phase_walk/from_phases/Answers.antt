@@ -1,10 +1,8 @@
-use Rattle.std.proofs.Common.{subst}
-use Rattle.timetable_arcs.specs.Table.{IsTable}
+use Rattle.plan_base.proofs.Common.{subst}
+use Rattle.timetable_arcs.specs.{IsTable}
 use Rattle.plain_graph.specs.declared.plain.Plain.{Plain}
-use Rattle.phase_graph.specs.Marks.{marks_in}
-use Rattle.phase_graph.specs.PhaseArcs.{phase_meaning, node_of}
-use Rattle.unpack.specs.Unpacking.{node_after, arrival_after}
-use Rattle.unpack.specs.PhaseUnpacking.{letters_in}
+use Rattle.phase_graph.specs.{marks_in, phase_meaning, node_of}
+use Rattle.unpack.specs.{node_after, arrival_after, letters_in}
 use Rattle.unpack.proofs.PhaseLemmas.{is_unpacked}
 use Rattle.unpack.proofs.phase_walk.from_phases.Goals as goal
 

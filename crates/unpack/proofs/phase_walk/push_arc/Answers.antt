@@ -1,12 +1,10 @@
-use Rattle.std.proofs.Common.{true, false, refl, subst}
-use Rattle.std.proofs.lemmas.Result.{on_ok_weaker}
-use Rattle.timetable_arcs.specs.Table.{IsTable}
+use Rattle.plan_base.proofs.Common.{true, false, refl, subst, on_ok_weaker}
+use Rattle.timetable_arcs.specs.{IsTable}
 use Rattle.plain_graph.specs.declared.plain.Plain.{Plain}
 use Rattle.mode_network.proofs.RuleLemmas.{some_is}
-use Rattle.phase_graph.specs.Marks.{is_fall, marks_in}
-use Rattle.hierarchy.specs.Lookups.{entry_at}
+use Rattle.phase_graph.specs.{is_fall, marks_in, Up, Down}
+use Rattle.hierarchy.specs.{entry_at}
 use Rattle.phase_graph.proofs.GraphLemmas.{taken}
-use Rattle.phase_graph.specs.declared.phases.PhaseArc.TheVariants.{Up, Down}
 use Rattle.unpack.proofs.PhaseLemmas.{by_entry, by_other}
 use Rattle.unpack.proofs.phase_walk.push_arc.Goals as goal
 

@@ -1,6 +1,5 @@
-use Rattle.std.proofs.Common.{◌≡◌, ◌∙◌, ◌<◌, ◌++◌, ◌∷◌, [], List, Option, ap, sym, subst}
-use Rattle.std.specs.Prelude.{option_to_list}
-use Rattle.hierarchy.specs.declared.entry.Entry.{Entry}
+use Rattle.plan_base.proofs.Common.{◌≡◌, ◌∙◌, ◌<◌, ◌++◌, ◌∷◌, [], List, Option, ap, sym, subst, option_to_list}
+use Rattle.hierarchy.specs.{Entry}
 use Rattle.unpack.proofs.PhaseLemmas.{IsUnpacking, work_of, unpacking_begins, unpacking_road, unpacking_parts, next_listed, less_by_road, less_by_parts}
 use Rattle.unpack.proofs.phase_walk.push_entry.Goals as goal
 

@@ -1,5 +1,5 @@
-use Rattle.std.proofs.lemmas.List.{get_or_default}
-use Rattle.hierarchy.specs.Lookups.{entry_at, no_entry}
+use Rattle.plan_base.proofs.Common.{get_or_default}
+use Rattle.hierarchy.specs.{entry_at, no_entry}
 use Rattle.unpack.proofs.PhaseLemmas.{differs}
 use Rattle.unpack.proofs.phase_walk.push_entry_at.Goals as goal
 

@@ -1,5 +1,5 @@
-use Rattle.std.proofs.Common.{◌∙◌, ◌++◌, ◌∷◌, [], List, ap}
-use Rattle.hierarchy.specs.declared.entry.Entry.{Entry}
+use Rattle.plan_base.proofs.Common.{◌∙◌, ◌++◌, ◌∷◌, [], List, ap}
+use Rattle.hierarchy.specs.{Entry}
 use Rattle.unpack.proofs.PhaseLemmas.{has_first, has_second, parts_weigh}
 use Rattle.unpack.proofs.phase_walk.push_parts.Goals as goal
 

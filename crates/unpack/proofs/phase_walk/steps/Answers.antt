@@ -1,8 +1,6 @@
-use Rattle.std.proofs.Common.{get_or}
-use Rattle.std.proofs.lemmas.List.{drop_more}
-use Rattle.product_search.specs.declared.label.Hop.{Hop}
-use Rattle.phase_graph.specs.Marks.{marks_in}
-use Rattle.phase_graph.specs.PhaseArcs.{phase_meaning}
+use Rattle.plan_base.proofs.Common.{get_or, drop_more}
+use Rattle.product_search.specs.{Hop}
+use Rattle.phase_graph.specs.{marks_in, phase_meaning}
 use Rattle.unpack.proofs.PhaseLemmas.{hop_taken, further}
 use Rattle.unpack.proofs.phase_walk.steps.Goals as goal
 

@@ -1,6 +1,5 @@
-use Rattle.std.specs.Prelude.{◌≡◌, []}
-use Rattle.phase_graph.specs.Marks.{marks_in}
-use Rattle.phase_graph.specs.PhaseArcs.{phase_meaning}
+use Rattle.plan_base.proofs.Common.{◌≡◌, []}
+use Rattle.phase_graph.specs.{marks_in, phase_meaning}
 use Rattle.unpack.proofs.PhaseLemmas.{IsUnderWay}
 use Rattle.unpack.proofs.phase_walk.steps.Given as goal
 

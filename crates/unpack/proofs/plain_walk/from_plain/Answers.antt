@@ -1,9 +1,8 @@
-use Rattle.std.proofs.Common.{List, ◌∙◌, ap, sym, subst}
-use Rattle.std.specs.Prelude.{All}
-use Rattle.timetable_arcs.specs.Table.{IsTable}
-use Rattle.mode_network.specs.declared.steps.Step.{Step}
-use Rattle.journey.specs.Boarded.{AreOnTime}
-use Rattle.unpack.specs.Unpacking.{IsSoon, steps_of, node_after, arrival_after, letters_of}
+use Rattle.plan_base.proofs.Common.{List, ◌∙◌, ap, sym, subst, All}
+use Rattle.timetable_arcs.specs.{IsTable}
+use Rattle.mode_network.specs.{Step}
+use Rattle.journey.specs.{AreOnTime}
+use Rattle.unpack.specs.{IsSoon, steps_of, node_after, arrival_after, letters_of}
 use Rattle.unpack.proofs.UnpackLemmas.{hops_on_time, are_real, have_arcs, steps_soon}
 use Rattle.unpack.proofs.plain_walk.from_plain.Goals as goal
 

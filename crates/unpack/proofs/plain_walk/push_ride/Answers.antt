@@ -1,6 +1,6 @@
-use Rattle.std.proofs.Common.{◌∙◌, sym, subst}
-use Rattle.timetable_arcs.specs.Patterns.{TableLists}
-use Rattle.plain_graph.specs.Rides.{IsRideOf}
+use Rattle.plan_base.proofs.Common.{◌∙◌, sym, subst}
+use Rattle.timetable_arcs.specs.{TableLists}
+use Rattle.plain_graph.specs.{IsRideOf}
 use Rattle.plain_graph.proofs.RunLemmas.{run_there}
 use Rattle.unpack.proofs.plain_walk.push_ride.Goals as goal
 

@@ -1,5 +1,5 @@
-use Rattle.std.proofs.Common.{◌≡◌, ◌++◌, drop}
-use Rattle.unpack.specs.Unpacking.{HaveArcs, steps_of}
+use Rattle.plan_base.proofs.Common.{◌≡◌, ◌++◌, drop}
+use Rattle.unpack.specs.{HaveArcs, steps_of}
 use Rattle.unpack.proofs.plain_walk.steps.Given as goal
 
 abbrev pub invariant-loop-hop : goal.invariant-loop-hop

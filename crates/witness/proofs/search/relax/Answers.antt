@@ -1,8 +1,5 @@
-use Rattle.std.proofs.Common.{◌≤◌, ◌∙◌, ap, get_or, refl, subst, sym, arith}
-use Rattle.std.proofs.lemmas.Option.{slice_get_read}
-use Rattle.witness.specs.declared.edge.Edge.{Edge}
-use Rattle.witness.specs.Rows.{items_of}
-use Rattle.witness.specs.inside.Searching.{IsSearch, IsBusy, IsEdgeClosed, work}
+use Rattle.plan_base.proofs.Common.{◌≤◌, ◌∙◌, ap, get_or, refl, subst, sym, arith, slice_get_read}
+use Rattle.witness.specs.{Edge, items_of, inside.IsSearch, inside.IsBusy, inside.IsEdgeClosed, inside.work}
 use Rattle.witness.proofs.SearchLemmas.{closed_more, all_closed, closed_now}
 use Rattle.witness.proofs.search.relax.Goals as goal
 

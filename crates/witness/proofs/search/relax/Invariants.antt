@@ -1,6 +1,5 @@
-use Rattle.std.proofs.Common.{◌≤◌, take}
-use Rattle.std.specs.Prelude.{All}
-use Rattle.witness.specs.inside.Searching.{IsSearch, IsSameRound, IsBusy, Reaches, IsEdgeClosed, work}
+use Rattle.plan_base.proofs.Common.{◌≤◌, take, All}
+use Rattle.witness.specs.inside.{IsSearch, IsSameRound, IsBusy, Reaches, IsEdgeClosed, work}
 use Rattle.witness.proofs.search.relax.Given as goal
 
 abbrev pub invariant-edges : goal.invariant-edges

@@ -1,5 +1,5 @@
-use Rattle.std.proofs.Common.{◌+◌, ◌<◌, length, refl, arith}
-use Rattle.witness.specs.inside.Searching.{IsBusy, HasParent}
+use Rattle.plan_base.proofs.Common.{◌+◌, ◌<◌, length, refl, arith}
+use Rattle.witness.specs.inside.{IsBusy, HasParent}
 use Rattle.witness.proofs.SearchLemmas.{offered_search, offered_less, offered_lower, offered_here}
 use Rattle.witness.proofs.search.relax_edge.Goals as goal
 

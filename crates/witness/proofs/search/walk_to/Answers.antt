@@ -1,7 +1,5 @@
-use Rattle.std.proofs.Common.{◌∙◌, sym, subst}
-use Rattle.std.proofs.lemmas.Bool.{false≢true}
-use Rattle.witness.specs.Rows.{NoWalkWithin}
-use Rattle.witness.specs.inside.Searching.{IsSearch, IsBusy}
+use Rattle.plan_base.proofs.Common.{◌∙◌, sym, subst, false≢true}
+use Rattle.witness.specs.{NoWalkWithin, inside.IsSearch, inside.IsBusy}
 use Rattle.witness.proofs.SearchLemmas.{next_search, passed_over, none_found}
 use Rattle.witness.proofs.search.walk_to.Goals as goal
 

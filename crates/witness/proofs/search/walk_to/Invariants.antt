@@ -1,4 +1,4 @@
-use Rattle.witness.specs.inside.Searching.{IsSearch, IsSameRound, NobodyBusy, work}
+use Rattle.witness.specs.inside.{IsSearch, IsSameRound, NobodyBusy, work}
 use Rattle.witness.proofs.search.walk_to.Given as goal
 
 abbrev pub invariant-turns : goal.invariant-turns

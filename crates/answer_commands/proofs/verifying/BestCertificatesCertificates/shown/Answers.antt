@@ -1,5 +1,4 @@
-use Rattle.std.proofs.Common.{Bor}
-use Rattle.std.specs.Prelude.{option_map}
+use Rattle.plan_base.proofs.Common.{Bor, option_map}
 use Rattle.hierarchy.specs.declared.hierarchy.Hierarchy.{Hierarchy}
 use Rattle.answer_commands.proofs.BlockLemmas.{valid_printable, shown_block}
 use Rattle.answer_commands.proofs.verifying.BestCertificatesCertificates.shown.Goals as goal

@@ -1,11 +1,7 @@
-use Rattle.std.proofs.Common.{◌-◌, map, IfOk, true, false, drop, None, refl, sym, ap, ◌∙◌, subst, add-one}
-use Rattle.std.proofs.lemmas.Result.{IfOk-weaker}
-use Rattle.mode_expression.specs.Form.{form_of, in_turn, one_of}
-use Rattle.automaton.specs.Written.{written, plus, copies_in_turn, options, sequence, optional, repeat}
-use Rattle.automaton.specs.inside.Builds.{Adds, built_of, Built}
-use Rattle.automaton.specs.inside.Sets.{has}
-use Rattle.automaton.proofs.AddLemmas.{adds_nothing, adds_nowhere, adds_sequence, adds_choice, adds_optional, adds_plus, adds_plus_dry, adds_same}
-use Rattle.automaton.proofs.PartLemmas.{written_seq, written_alt, drop_less, drop_none}
+use Rattle.plan_base.proofs.Common.{◌-◌, map, IfOk, true, false, drop, None, refl, sym, ap, ◌∙◌, subst, add-one, IfOk-weaker}
+use Rattle.mode_expression.specs.{form_of, in_turn, one_of}
+use Rattle.automaton.specs.{written, plus, copies_in_turn, options, sequence, optional, repeat, inside.Adds, inside.built_of, inside.Built, inside.has}
+use Rattle.automaton.proofs.{AddLemmas.adds_nothing, AddLemmas.adds_nowhere, AddLemmas.adds_sequence, AddLemmas.adds_choice, AddLemmas.adds_optional, AddLemmas.adds_plus, AddLemmas.adds_plus_dry, AddLemmas.adds_same, PartLemmas.written_seq, PartLemmas.written_alt, PartLemmas.drop_less, PartLemmas.drop_none}
 use Rattle.automaton.proofs.builder.Builder.+build.Goals as goal
 
 pub add-returns-in-Seq : goal.add-returns-in-Seq

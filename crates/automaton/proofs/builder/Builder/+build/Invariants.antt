@@ -1,8 +1,6 @@
-use Rattle.std.proofs.Common.{map, drop}
-use Rattle.mode_expression.specs.Form.{form_of, in_turn, one_of}
-use Rattle.automaton.specs.Written.{written, copies_in_turn, options}
-use Rattle.automaton.specs.inside.Builds.{Adds, built_of}
-use Rattle.automaton.specs.inside.Sets.{has}
+use Rattle.plan_base.proofs.Common.{map, drop}
+use Rattle.mode_expression.specs.{form_of, in_turn, one_of}
+use Rattle.automaton.specs.{written, copies_in_turn, options, inside.Adds, inside.built_of, inside.has}
 use Rattle.automaton.proofs.builder.Builder.+build.Given as goal
 
 -- the parts from `left` on were added

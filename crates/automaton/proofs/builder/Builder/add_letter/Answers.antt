@@ -1,5 +1,4 @@
-use Rattle.automaton.specs.inside.Builds.{built_of}
-use Rattle.automaton.specs.inside.Sets.{has}
+use Rattle.automaton.specs.inside.{built_of, has}
 use Rattle.automaton.proofs.AddLemmas.{adds_letter}
 use Rattle.automaton.proofs.builder.Builder.add_letter.Goals as goal
 

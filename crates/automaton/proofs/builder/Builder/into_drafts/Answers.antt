@@ -1,5 +1,5 @@
-use Rattle.std.proofs.Common.{◌∙◌, ap, map}
-use Rattle.automaton.specs.inside.Builds.{draft_row}
+use Rattle.plan_base.proofs.Common.{◌∙◌, ap, map}
+use Rattle.automaton.specs.inside.{draft_row}
 use Rattle.automaton.proofs.StateLemmas.{map-reverse}
 use Rattle.automaton.proofs.builder.Builder.into_drafts.Goals as goal
 

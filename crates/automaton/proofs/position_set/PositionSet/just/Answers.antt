@@ -1,4 +1,4 @@
-use Rattle.std.proofs.Common.{arith}
+use Rattle.plan_base.proofs.Common.{arith}
 use Rattle.automaton.proofs.SetLemmas.{has-low, has-high}
 use Rattle.automaton.proofs.position_set.PositionSet.just.Goals as goal
 

@@ -1,12 +1,7 @@
-use Rattle.std.proofs.Common.{ℕ, ◌∙◌, [], false, ap, subst, map, length, arith}
-use Rattle.std.proofs.lemmas.List.{length-map}
-use Rattle.mode_expression.specs.Form.{form_of}
-use Rattle.automaton.specs.inside.Builds.{Built, built_of, draft_row, Adds}
-use Rattle.automaton.specs.inside.Sets.{has}
-use Rattle.automaton.specs.Written.{written}
-use Rattle.automaton.specs.States.{view_of, states_for}
-use Rattle.automaton.proofs.PositionLemmas.{end}
-use Rattle.automaton.proofs.OfLemmas.{few_rows, of_lawful, of_states, of_accepts, of_few_states, of_few_moves}
+use Rattle.plan_base.proofs.Common.{ℕ, ◌∙◌, [], false, ap, subst, map, length, arith, length-map}
+use Rattle.mode_expression.specs.{form_of}
+use Rattle.automaton.specs.{inside.Built, inside.built_of, inside.draft_row, inside.Adds, inside.has, written, view_of, states_for}
+use Rattle.automaton.proofs.{PositionLemmas.end, OfLemmas.few_rows, OfLemmas.of_lawful, OfLemmas.of_states, OfLemmas.of_accepts, OfLemmas.of_few_states, OfLemmas.of_few_moves}
 use Rattle.automaton.proofs.positions.Positions.of.Goals as goal
 
 abbrev fresh_of : ℕ → Built

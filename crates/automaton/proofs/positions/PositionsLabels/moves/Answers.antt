@@ -1,6 +1,5 @@
-use Rattle.std.proofs.Common.{length, ap, arith}
-use Rattle.std.proofs.lemmas.List.{length-map}
-use Rattle.automaton.specs.States.{view_of}
+use Rattle.plan_base.proofs.Common.{length, ap, arith, length-map}
+use Rattle.automaton.specs.{view_of}
 use Rattle.automaton.proofs.StateLemmas.{view_read}
 use Rattle.automaton.proofs.positions.PositionsLabels.moves.Goals as goal
 

@@ -1,8 +1,6 @@
-use Rattle.std.proofs.Common.{◌≡◌, length, ap, sym, ◌∙◌, subst, arith}
+use Rattle.plan_base.proofs.Common.{◌≡◌, length, ap, sym, ◌∙◌, subst, arith, with_items_is}
 use Rattle.std.specs.Vec.{with_items}
-use Rattle.std.proofs.lemmas.List.{with_items_is}
-use Rattle.certificate.specs.declared.state_sets.StateSets.{StateSets}
-use Rattle.certificate.specs.StateSets.{LeadsTo, AreKnown}
+use Rattle.certificate.specs.{declared.state_sets.StateSets.StateSets, LeadsTo, AreKnown}
 use Rattle.certificate.proofs.StateLemmas.{after_more, known_more}
 use Rattle.certificate.proofs.state_sets.StateSets.look_up.Goals as goal
 

@@ -1,7 +1,5 @@
-use Rattle.std.proofs.Common.{◌≡◌, length, ap, sym, ◌∙◌, subst}
-use Rattle.certificate.specs.declared.state_sets.KnownStep.{KnownStep}
-use Rattle.certificate.specs.declared.state_sets.StateSets.{StateSets}
-use Rattle.certificate.specs.StateSets.{LeadsTo, IsKnownStep}
+use Rattle.plan_base.proofs.Common.{◌≡◌, length, ap, sym, ◌∙◌, subst}
+use Rattle.certificate.specs.{KnownStep, LeadsTo, IsKnownStep, declared.state_sets.StateSets.StateSets}
 use Rattle.certificate.proofs.StateLemmas.{after_more}
 use Rattle.certificate.proofs.state_sets.StateSets.read.Goals as goal
 

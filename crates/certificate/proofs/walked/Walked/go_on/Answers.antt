@@ -1,4 +1,4 @@
-use Rattle.std.proofs.Common.{append-nil}
+use Rattle.plan_base.proofs.Common.{append-nil}
 use Rattle.certificate.proofs.walked.Walked.go_on.Goals as goal
 use Rattle.certificate.proofs.walked.Walked.go_on.Goals.{in-Some, in_default}
 

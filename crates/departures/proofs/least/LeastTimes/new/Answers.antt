@@ -1,6 +1,6 @@
-use Rattle.std.proofs.Common.{subst}
-use Rattle.timetable_arcs.specs.Patterns.{TableLists}
-use Rattle.departures.specs.Fastest.{NoneIsFaster}
+use Rattle.plan_base.proofs.Common.{subst}
+use Rattle.timetable_arcs.specs.{TableLists}
+use Rattle.departures.specs.{NoneIsFaster}
 use Rattle.departures.proofs.LeastArcLemmas.{least_lawful}
 use Rattle.departures.proofs.least.LeastTimes.new.Goals as goal
 

@@ -1,7 +1,6 @@
-use Rattle.std.proofs.Common.{◌≡◌, ◌∙◌, true, false, sym, ap, arith}
-use Rattle.search_laws.specs.declared.graph.GraphArc.{GraphArc}
-use Rattle.search_laws.specs.Ways.{is_open}
-use Rattle.departures.specs.LeastArcs.{least_meaning}
+use Rattle.plan_base.proofs.Common.{◌≡◌, ◌∙◌, true, false, sym, ap, arith}
+use Rattle.search_laws.specs.{GraphArc, is_open}
+use Rattle.departures.specs.{least_meaning}
 use Rattle.plain_graph.proofs.PlaceTies.{nothing_more}
 use Rattle.departures.proofs.WayLemmas.{closed_ways, more_ways}
 use Rattle.departures.proofs.least.LeastTimes.push_alike.Goals as goal

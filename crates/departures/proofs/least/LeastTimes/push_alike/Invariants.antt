@@ -1,6 +1,6 @@
-use Rattle.std.proofs.Common.{◌≡◌, ◌-◌, ◌≤◌, ◌++◌}
-use Rattle.search_laws.specs.Ways.{ways_from}
-use Rattle.departures.specs.LeastArcs.{least_meaning}
+use Rattle.plan_base.proofs.Common.{◌≡◌, ◌-◌, ◌≤◌, ◌++◌}
+use Rattle.search_laws.specs.{ways_from}
+use Rattle.departures.specs.{least_meaning}
 use Rattle.departures.proofs.least.LeastTimes.push_alike.Given as goal
 
 abbrev pub invariant-loop-place : goal.invariant-loop-place

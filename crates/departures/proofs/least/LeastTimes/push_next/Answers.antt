@@ -1,7 +1,5 @@
-use Rattle.std.proofs.Common.{◌≡◌, ◌+◌, ◌-◌, ◌<◌, ◌≤◌, ◌++◌, length, sym, arith}
-use Rattle.std.proofs.lemmas.Result.{IfOk-weaker}
-use Rattle.departures.specs.LeastArcs.{least_meaning}
-use Rattle.departures.specs.inside.BoardRides.{ends_from, least_ways, AddsAlike}
+use Rattle.plan_base.proofs.Common.{◌≡◌, ◌+◌, ◌-◌, ◌<◌, ◌≤◌, ◌++◌, length, sym, arith, IfOk-weaker}
+use Rattle.departures.specs.{least_meaning, inside.ends_from, inside.least_ways, inside.AddsAlike}
 use Rattle.departures.proofs.BoardArcLemmas.{count_within, one_at_least, adds_rides, if_both}
 use Rattle.departures.proofs.least.LeastTimes.push_next.Goals as goal
 

@@ -1,10 +1,9 @@
-use Rattle.std.proofs.Common.{◌≡◌, ◌<◌, ◌&&◌, nat_lt, length, ◌∙◌, sym}
-use Rattle.timetable_arcs.specs.Patterns.{pattern_trip}
-use Rattle.plain_graph.specs.PlainArcs.{pattern_call}
+use Rattle.plan_base.proofs.Common.{◌≡◌, ◌<◌, ◌&&◌, nat_lt, length, ◌∙◌, sym}
+use Rattle.timetable_arcs.specs.{pattern_trip}
+use Rattle.plain_graph.specs.{pattern_call}
 use Rattle.plain_graph.proofs.RunLemmas.{call_at_stop}
-use Rattle.departures.specs.inside.BoardRides.{ride_to, least_way}
-use Rattle.departures.proofs.BoardLemmas.{passes, goes_on}
-use Rattle.departures.proofs.least.LeastTimes.push_rides.Goals.{then-ends_before+in_ok-push, else-ends_before}
+use Rattle.departures.specs.inside.{ride_to, least_way}
+use Rattle.departures.proofs.{BoardLemmas.passes, BoardLemmas.goes_on, least.LeastTimes.push_rides.Goals.then-ends_before+in_ok-push, least.LeastTimes.push_rides.Goals.else-ends_before}
 use Rattle.departures.proofs.least.LeastTimes.push_rides.Goals as goal
 
 pub ride_way-requires : goal.ride_way-requires

@@ -1,13 +1,10 @@
-use Rattle.std.proofs.Common.{◌≡◌, ◌-◌, ◌≤◌, ◌++◌, ◌∙◌, ap, arith}
-use Rattle.search_laws.specs.Ways.{moving_letters, ways_from, ways_past}
-use Rattle.search_laws.specs.declared.graph.Graph.{rides-default}
+use Rattle.plan_base.proofs.Common.{◌≡◌, ◌-◌, ◌≤◌, ◌++◌, ◌∙◌, ap, arith}
+use Rattle.search_laws.specs.{moving_letters, ways_from, ways_past, declared.graph.Graph.rides-default}
 use Rattle.search_laws.proofs.FreshLemmas.{adds_all, moving_asked}
-use Rattle.mode_network.specs.NetworkLists.{NetworkLists, letter_at}
-use Rattle.plain_graph.specs.PlainArcs.{count_from, arcs_at}
-use Rattle.departures.specs.declared.least.LeastTimes.{LeastTimes}
-use Rattle.departures.specs.LeastArcs.{least_meaning}
-use Rattle.departures.proofs.StandLemmas.{least_stand}
-use Rattle.departures.proofs.WayLemmas.{more_ways}
+use Rattle.mode_network.specs.{NetworkLists.NetworkLists, letter_at}
+use Rattle.plain_graph.specs.{count_from, arcs_at}
+use Rattle.departures.specs.{declared.least.LeastTimes.LeastTimes, least_meaning}
+use Rattle.departures.proofs.{StandLemmas.least_stand, WayLemmas.more_ways}
 use Rattle.departures.proofs.least.LeastTimesGraph.fresh_ways.Goals as goal
 
 pub loop-first-preserved : goal.loop-first-preserved

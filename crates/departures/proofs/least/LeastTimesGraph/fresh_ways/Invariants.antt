@@ -1,7 +1,7 @@
-use Rattle.std.proofs.Common.{◌≡◌, ◌-◌, ◌≤◌, ◌++◌}
-use Rattle.search_laws.specs.Ways.{ways_from}
-use Rattle.plain_graph.specs.PlainArcs.{count_from, arcs_at}
-use Rattle.departures.specs.LeastArcs.{least_meaning}
+use Rattle.plan_base.proofs.Common.{◌≡◌, ◌-◌, ◌≤◌, ◌++◌}
+use Rattle.search_laws.specs.{ways_from}
+use Rattle.plain_graph.specs.{count_from, arcs_at}
+use Rattle.departures.specs.{least_meaning}
 use Rattle.departures.proofs.least.LeastTimesGraph.fresh_ways.Given as goal
 
 abbrev pub invariant-loop-first : goal.invariant-loop-first

@@ -1,7 +1,7 @@
-use Rattle.std.proofs.Common.{◌∙◌, ap, sym, arith}
-use Rattle.plain_graph.specs.PlainArcs.{arrival}
+use Rattle.plan_base.proofs.Common.{◌∙◌, ap, sym, arith}
+use Rattle.plain_graph.specs.{arrival}
 use Rattle.plain_graph.proofs.PlaceTies.{road_at}
-use Rattle.departures.specs.LeastArcs.{least_arrival}
+use Rattle.departures.specs.{least_arrival}
 use Rattle.departures.proofs.least.LeastTimesGraph.steady.Goals as goal
 
 pub returns-clause-legs : goal.returns-clause-legs

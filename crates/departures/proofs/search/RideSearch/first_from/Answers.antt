@@ -1,8 +1,8 @@
-use Rattle.std.proofs.lemmas.Result.{IfOk-weaker}
-use Rattle.journey.specs.Best.{asked_by}
+use Rattle.plan_base.proofs.Common.{IfOk-weaker}
+use Rattle.journey.specs.{asked_by}
 use Rattle.unpack.proofs.TakenLemmas.{walk_is_plain}
-use Rattle.latest_departure.specs.inside.Forward.{leaving}
-use Rattle.departures.specs.inside.Searching.{search_labels}
+use Rattle.latest_departure.specs.inside.{leaving}
+use Rattle.departures.specs.inside.{search_labels}
 use Rattle.departures.proofs.FirstLemmas.{walk_soon, none_accepted, first_row}
 use Rattle.departures.proofs.search.RideSearch.first_from.Goals as goal
 

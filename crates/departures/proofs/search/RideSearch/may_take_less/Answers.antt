@@ -1,12 +1,8 @@
-use Rattle.std.proofs.Common.{◌∙◌, sym, subst, arith}
+use Rattle.plan_base.proofs.Common.{◌∙◌, sym, subst, arith}
 use Rattle.mode_network.specs.NetworkLists.{NetworkLists}
-use Rattle.journey.specs.Best.{asked_by}
-use Rattle.journey.specs.CopyLists.{AreTheCopies}
-use Rattle.departures.specs.inside.Searching.{search_labels, NoneTakesLess}
-use Rattle.departures.proofs.FirstLemmas.{none_accepted}
-use Rattle.departures.proofs.LeastLemmas.{none_found}
-use Rattle.departures.proofs.OrderLemmas.{not_before}
-use Rattle.departures.proofs.ReaderLemmas.{pair_rises}
+use Rattle.journey.specs.{asked_by, AreTheCopies}
+use Rattle.departures.specs.inside.{search_labels, NoneTakesLess}
+use Rattle.departures.proofs.{FirstLemmas.none_accepted, LeastLemmas.none_found, OrderLemmas.not_before, ReaderLemmas.pair_rises}
 use Rattle.departures.proofs.search.RideSearch.may_take_less.Goals as goal
 
 pub invariant_of-question-clause-starts_there : goal.invariant_of-question-clause-starts_there

@@ -1,10 +1,7 @@
-use Rattle.automaton.specs.Collapsed.{collapsed}
-use Rattle.automaton.specs.CollapsedLaws.{collapsed_lawful}
-use Rattle.automaton.specs.Meanings.{position_meaning}
-use Rattle.mode_expression.specs.Form.{form_of}
-use Rattle.few_boardings.specs.declared.counted.Side.TheVariants.{AtLeast}
-use Rattle.few_boardings.proofs.CountedLemmas.{accepts_counted}
-use Rattle.few_boardings.proofs.FoundLemmas.{counting_of}
+use Rattle.automaton.specs.{collapsed, collapsed_lawful, position_meaning}
+use Rattle.mode_expression.specs.{form_of}
+use Rattle.few_boardings.specs.{AtLeast}
+use Rattle.few_boardings.proofs.{CountedLemmas.accepts_counted, FoundLemmas.counting_of}
 use Rattle.departures.proofs.TransitLemmas.{accepts_none}
 use Rattle.departures.proofs.search.RideSearch.new.Goals as goal
 

@@ -1,8 +1,5 @@
-use Rattle.std.proofs.Common.{◌<◌, length, arith, subst}
-use Rattle.std.proofs.lemmas.Int.{ints}
-use Rattle.std.proofs.lemmas.List.Elements.{All-more, All-weaker}
-use Rattle.std.proofs.lemmas.List.{take_all}
-use Rattle.geo_length.specs.Boxes.{AreInside, IsInBounds}
+use Rattle.plan_base.proofs.Common.{◌<◌, length, arith, subst, ints, All-more, All-weaker, take_all}
+use Rattle.geo_length.specs.{AreInside, IsInBounds}
 use Rattle.geo_length.proofs.boxes.Bounds.of.Goals as goal
 
 pub loop-point-preserved : goal.loop-point-preserved

@@ -1,5 +1,5 @@
-use Rattle.std.proofs.Common.{take}
-use Rattle.geo_length.specs.Boxes.{AreInside}
+use Rattle.plan_base.proofs.Common.{take}
+use Rattle.geo_length.specs.{AreInside}
 use Rattle.geo_length.proofs.boxes.Bounds.of.Given as goal
 
 abbrev pub invariant-loop-point : goal.invariant-loop-point

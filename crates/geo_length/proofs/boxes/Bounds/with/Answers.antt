@@ -1,5 +1,5 @@
-use Rattle.std.proofs.Common.{arith}
-use Rattle.std.proofs.lemmas.Int.{ints, clamps}
+use Rattle.plan_base.proofs.Common.{arith, ints}
+use Rattle.std.proofs.lemmas.Int.{clamps}
 use Rattle.geo_length.proofs.boxes.Bounds.with.Goals as goal
 
 pub invariant_of-result : goal.invariant_of-result

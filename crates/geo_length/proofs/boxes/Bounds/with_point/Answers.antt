@@ -1,5 +1,4 @@
-use Rattle.std.proofs.Common.{arith}
-use Rattle.std.proofs.lemmas.Int.{ints}
+use Rattle.plan_base.proofs.Common.{arith, ints}
 use Rattle.geo_length.proofs.BoxLaws.{still_within}
 use Rattle.geo_length.proofs.boxes.Bounds.with_point.Goals as goal
 

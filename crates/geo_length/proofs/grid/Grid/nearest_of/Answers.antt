@@ -1,7 +1,5 @@
-use Rattle.std.proofs.Common.{[], ◌<◌}
-use Rattle.std.specs.Prelude.{filter}
-use Rattle.std.proofs.lemmas.List.Elements.{All-nil}
-use Rattle.geo_length.specs.Nearest.{Point, length_to}
+use Rattle.plan_base.proofs.Common.{[], ◌<◌, filter, All-nil}
+use Rattle.geo_length.specs.{Point, length_to}
 use Rattle.geo_length.proofs.NearestLaws.{IsNearest-only}
 use Rattle.geo_length.proofs.grid.Grid.nearest_of.Goals as goal
 

@@ -1,4 +1,4 @@
-use Rattle.std.proofs.lemmas.List.Sorted.{IsPermutation-sym}
+use Rattle.plan_base.proofs.Common.{IsPermutation-sym}
 use Rattle.geo_length.proofs.NearestLaws.{IsNearest-permutation}
 use Rattle.geo_length.proofs.grid.Grid.of.Goals as goal
 

@@ -1,9 +1,6 @@
-use Rattle.std.proofs.Common.{sym, ap, ◌∙◌, refl, Some, Err}
-use Rattle.std.specs.Prelude.{unwrap_or}
-use Rattle.gtfs_tables.specs.declared.faults.FeedFault.TheVariants.{MixedZones}
-use Rattle.gtfs_tables.specs.Agencies.{agencies, is_first}
-use Rattle.gtfs_tables.proofs.AgencyLemmas.{first_stays, same_zone, without_key}
-use Rattle.gtfs_tables.proofs.TableLemmas.{faultless_row, mixed}
+use Rattle.plan_base.proofs.Common.{sym, ap, ◌∙◌, refl, Some, Err, unwrap_or}
+use Rattle.gtfs_tables.specs.{MixedZones, agencies, is_first}
+use Rattle.gtfs_tables.proofs.{AgencyLemmas.first_stays, AgencyLemmas.same_zone, AgencyLemmas.without_key, TableLemmas.faultless_row, TableLemmas.mixed}
 use Rattle.gtfs_tables.proofs.agencies.ZonesTakesRows.take.Goals as goal
 
 pub returns-then-not-branch-clause-row : goal.returns-then-not-branch-clause-row

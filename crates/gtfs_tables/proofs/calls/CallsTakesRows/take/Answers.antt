@@ -1,13 +1,6 @@
-use Rattle.std.proofs.Common.{ℕ, [], ◌∷◌, ◌++◌, sym, ap, ap₂, ◌∙◌, refl, Option}
-use Rattle.std.specs.Prelude.{is_some, unwrap_or}
-use Rattle.std.specs.List.{list_any}
-use Rattle.gtfs_tables.specs.declared.columns.Column.TheVariants.{TripId, StopId}
-use Rattle.gtfs_tables.specs.Calls.{HasTrip, StopTime, call_between, calls, is_same_key, references}
-use Rattle.gtfs_tables.specs.Tables.{first_dangling}
-use Rattle.gtfs_tables.specs.Trips.{place_among}
-use Rattle.gtfs_tables.proofs.CallLemmas.{found_key, one_more_known, unknown_key}
-use Rattle.gtfs_tables.proofs.ListLemmas.{was_known, was_new}
-use Rattle.gtfs_tables.proofs.TableLemmas.{dangling, joins, repeated}
+use Rattle.plan_base.proofs.Common.{ℕ, [], ◌∷◌, ◌++◌, sym, ap, ap₂, ◌∙◌, refl, Option, is_some, unwrap_or, list_any}
+use Rattle.gtfs_tables.specs.{TripId, StopId, HasTrip, StopTime, call_between, calls, is_same_key, references, first_dangling, place_among}
+use Rattle.gtfs_tables.proofs.{CallLemmas.found_key, CallLemmas.one_more_known, CallLemmas.unknown_key, ListLemmas.was_known, ListLemmas.was_new, TableLemmas.dangling, TableLemmas.joins, TableLemmas.repeated}
 use Rattle.gtfs_tables.proofs.calls.CallsTakesRows.take.Goals as goal
 
 pub returns-in_default-clause-row : goal.returns-in_default-clause-row

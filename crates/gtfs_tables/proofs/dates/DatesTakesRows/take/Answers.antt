@@ -1,8 +1,6 @@
-use Rattle.std.proofs.Common.{ap, ◌∙◌, refl, Some}
-use Rattle.gtfs_tables.specs.declared.dates.DateRow.{DateRow}
-use Rattle.gtfs_tables.specs.ServiceDates.{dates, is_same_pair, service_date_of}
-use Rattle.gtfs_tables.proofs.ListLemmas.{was_new, was_known}
-use Rattle.gtfs_tables.proofs.TableLemmas.{repeated, known_key, joins}
+use Rattle.plan_base.proofs.Common.{ap, ◌∙◌, refl, Some}
+use Rattle.gtfs_tables.specs.{DateRow, dates, is_same_pair, service_date_of}
+use Rattle.gtfs_tables.proofs.{ListLemmas.was_new, ListLemmas.was_known, TableLemmas.repeated, TableLemmas.known_key, TableLemmas.joins}
 use Rattle.gtfs_tables.proofs.dates.DatesTakesRows.take.Goals as goal
 
 pub returns-then-not-branch-clause-row : goal.returns-then-not-branch-clause-row

@@ -1,6 +1,5 @@
-use Rattle.std.proofs.Common.{ℕ, List, ◌∙◌, sym, ap, not}
-use Rattle.std.specs.List.{list_any}
-use Rattle.gtfs_tables.specs.ServiceDates.{is_same_pair}
+use Rattle.plan_base.proofs.Common.{ℕ, List, ◌∙◌, sym, ap, not, list_any}
+use Rattle.gtfs_tables.specs.{is_same_pair}
 use Rattle.gtfs_tables.proofs.ListLemmas.{list_any-map}
 use Rattle.gtfs_tables.proofs.dates.Pairs.insert.Goals as goal
 

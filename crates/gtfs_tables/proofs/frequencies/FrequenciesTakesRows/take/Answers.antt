@@ -1,11 +1,6 @@
-use Rattle.std.proofs.Common.{◌≡◌, ℕ, [], ◌∷◌, ◌++◌, sym, ap, ◌∙◌, refl, Option, Some}
-use Rattle.std.specs.Prelude.{is_some, option_map, option_to_list}
-use Rattle.gtfs_tables.specs.declared.columns.Column.TheVariants.{TripId}
-use Rattle.gtfs_tables.specs.declared.frequencies.FrequencyRow.{FrequencyRow}
-use Rattle.gtfs_tables.specs.Frequencies.{Frequency, frequencies, frequency_of, frequency_over}
-use Rattle.gtfs_tables.specs.Tables.{first_dangling}
-use Rattle.gtfs_tables.proofs.FrequencyLemmas.{without_key}
-use Rattle.gtfs_tables.proofs.TableLemmas.{dangling, faultless_row, one_more, without_zones}
+use Rattle.plan_base.proofs.Common.{◌≡◌, ℕ, [], ◌∷◌, ◌++◌, sym, ap, ◌∙◌, refl, Option, Some, is_some, option_map, option_to_list}
+use Rattle.gtfs_tables.specs.{TripId, FrequencyRow, Frequency, frequencies, frequency_of, frequency_over, first_dangling}
+use Rattle.gtfs_tables.proofs.{FrequencyLemmas.without_key, TableLemmas.dangling, TableLemmas.faultless_row, TableLemmas.one_more, TableLemmas.without_zones}
 use Rattle.gtfs_tables.proofs.frequencies.FrequenciesTakesRows.take.Goals as goal
 
 pub returns-in_default-clause-row : goal.returns-in_default-clause-row

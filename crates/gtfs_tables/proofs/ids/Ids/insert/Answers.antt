@@ -1,6 +1,4 @@
-use Rattle.std.proofs.Common.{ℕ, List, ◌∙◌, sym, ap, not}
-use Rattle.std.specs.Prelude.{bytes_eq}
-use Rattle.std.specs.List.{list_any}
+use Rattle.plan_base.proofs.Common.{ℕ, List, ◌∙◌, sym, ap, not, bytes_eq, list_any}
 use Rattle.gtfs_tables.proofs.ListLemmas.{list_any-map}
 use Rattle.gtfs_tables.proofs.ids.Ids.insert.Goals as goal
 

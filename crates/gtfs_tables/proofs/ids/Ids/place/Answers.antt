@@ -1,5 +1,4 @@
-use Rattle.std.proofs.Common.{◌∙◌, sym, ap}
-use Rattle.std.specs.Prelude.{bytes_eq, position}
+use Rattle.plan_base.proofs.Common.{◌∙◌, sym, ap, bytes_eq, position}
 use Rattle.gtfs_tables.proofs.ListLemmas.{position-map}
 use Rattle.gtfs_tables.proofs.ids.Ids.place.Goals as goal
 

@@ -1,7 +1,6 @@
-use Rattle.std.proofs.Common.{◌∙◌, inr, ap}
-use Rattle.csv.specs.Reading.{builder_config, builder_is_flexible, builder_trim, builder_names_headers}
+use Rattle.plan_base.proofs.Common.{◌∙◌, inr, ap}
+use Rattle.csv.specs.Reading.{builder_config, builder_is_flexible, builder_trim, builder_names_headers, strip_bom}
 use Rattle.csv.specs.Machine.{ends_at_end}
-use Rattle.csv.specs.Reading.{strip_bom}
 use Rattle.gtfs_tables.proofs.records.Rows.new.Goals as goal
 
 pub invariant_of-result : goal.invariant_of-result

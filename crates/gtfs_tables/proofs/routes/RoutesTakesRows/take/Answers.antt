@@ -1,9 +1,6 @@
-use Rattle.std.proofs.Common.{ap, ◌∙◌, refl, Some}
-use Rattle.std.specs.Prelude.{bytes_eq}
-use Rattle.gtfs_tables.specs.declared.routes.RouteRow.{RouteRow}
-use Rattle.gtfs_tables.specs.Routes.{routes}
-use Rattle.gtfs_tables.proofs.ListLemmas.{was_new, was_known}
-use Rattle.gtfs_tables.proofs.TableLemmas.{repeated, known_key, joins}
+use Rattle.plan_base.proofs.Common.{ap, ◌∙◌, refl, Some, bytes_eq}
+use Rattle.gtfs_tables.specs.{RouteRow, routes}
+use Rattle.gtfs_tables.proofs.{ListLemmas.was_new, ListLemmas.was_known, TableLemmas.repeated, TableLemmas.known_key, TableLemmas.joins}
 use Rattle.gtfs_tables.proofs.routes.RoutesTakesRows.take.Goals as goal
 
 pub returns-then-not-branch-clause-row : goal.returns-then-not-branch-clause-row

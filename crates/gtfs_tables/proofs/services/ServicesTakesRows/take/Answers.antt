@@ -1,9 +1,6 @@
-use Rattle.std.proofs.Common.{ap, ◌∙◌, refl, Some}
-use Rattle.std.specs.Prelude.{bytes_eq}
-use Rattle.gtfs_tables.specs.declared.services.ServiceRow.{ServiceRow}
-use Rattle.gtfs_tables.specs.Services.{services}
-use Rattle.gtfs_tables.proofs.ListLemmas.{was_new, was_known}
-use Rattle.gtfs_tables.proofs.TableLemmas.{repeated, known_key, joins}
+use Rattle.plan_base.proofs.Common.{ap, ◌∙◌, refl, Some, bytes_eq}
+use Rattle.gtfs_tables.specs.{ServiceRow, services}
+use Rattle.gtfs_tables.proofs.{ListLemmas.was_new, ListLemmas.was_known, TableLemmas.repeated, TableLemmas.known_key, TableLemmas.joins}
 use Rattle.gtfs_tables.proofs.services.ServicesTakesRows.take.Goals as goal
 
 pub returns-then-not-branch-clause-row : goal.returns-then-not-branch-clause-row

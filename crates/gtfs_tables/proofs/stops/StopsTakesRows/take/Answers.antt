@@ -1,12 +1,6 @@
-use Rattle.std.proofs.Common.{ℕ, List, ◌++◌, map, sym, ap, ap₂, ◌∙◌, refl, Option}
-use Rattle.std.specs.Prelude.{bytes_eq, option_to_list}
-use Rattle.std.specs.List.{list_any}
-use Rattle.std.proofs.lemmas.List.{map-append}
-use Rattle.gtfs_tables.specs.declared.stops.StopRow.{StopRow}
-use Rattle.gtfs_tables.specs.Stops.{Location, stops, stop_of}
-use Rattle.gtfs_tables.proofs.ListLemmas.{was_new, was_known}
-use Rattle.gtfs_tables.proofs.StopLemmas.{has_id_of, listed_id}
-use Rattle.gtfs_tables.proofs.TableLemmas.{joins, known_key, no_record, repeated}
+use Rattle.plan_base.proofs.Common.{ℕ, List, ◌++◌, map, sym, ap, ap₂, ◌∙◌, refl, Option, bytes_eq, option_to_list, list_any, map-append}
+use Rattle.gtfs_tables.specs.{StopRow, Location, stops, stop_of}
+use Rattle.gtfs_tables.proofs.{ListLemmas.was_new, ListLemmas.was_known, StopLemmas.has_id_of, StopLemmas.listed_id, TableLemmas.joins, TableLemmas.known_key, TableLemmas.no_record, TableLemmas.repeated}
 use Rattle.gtfs_tables.proofs.stops.StopsTakesRows.take.Goals as goal
 
 pub returns-then-not-branch-clause-row : goal.returns-then-not-branch-clause-row

@@ -1,12 +1,6 @@
-use Rattle.std.proofs.Common.{ℕ, List, [], ◌∷◌, ◌++◌, map, sym, ap, ◌∙◌, refl, Option, Some}
-use Rattle.std.specs.Prelude.{bytes_eq, is_some, option_map}
-use Rattle.std.proofs.lemmas.List.{map-append}
-use Rattle.gtfs_tables.specs.declared.trips.TripRow.{TripRow}
-use Rattle.gtfs_tables.specs.declared.columns.Column.TheVariants.{RouteId}
-use Rattle.gtfs_tables.specs.Tables.{first_dangling}
-use Rattle.gtfs_tables.specs.Trips.{TripLine, trips, trip_over}
-use Rattle.gtfs_tables.proofs.ListLemmas.{was_new, was_known}
-use Rattle.gtfs_tables.proofs.TableLemmas.{dangling, joins, known_key, repeated}
+use Rattle.plan_base.proofs.Common.{ℕ, List, [], ◌∷◌, ◌++◌, map, sym, ap, ◌∙◌, refl, Option, Some, bytes_eq, is_some, option_map, map-append}
+use Rattle.gtfs_tables.specs.{TripRow, RouteId, first_dangling, TripLine, trips, trip_over}
+use Rattle.gtfs_tables.proofs.{ListLemmas.was_new, ListLemmas.was_known, TableLemmas.dangling, TableLemmas.joins, TableLemmas.known_key, TableLemmas.repeated}
 use Rattle.gtfs_tables.proofs.trips.TripsTakesRows.take.Goals as goal
 
 pub returns-then-not-branch-clause-row : goal.returns-then-not-branch-clause-row

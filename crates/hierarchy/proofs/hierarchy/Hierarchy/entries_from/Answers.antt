@@ -1,13 +1,8 @@
-use Rattle.std.proofs.Common.{◌≡◌, ℕ, ◌+◌, ◌<◌, ◌∙◌, length, sym, ap, subst, arith}
-use Rattle.std.specs.Prelude.{All}
-use Rattle.std.proofs.lemmas.List.Elements.{All-weaker}
-use Rattle.hierarchy.specs.declared.entry.Entry.{Entry}
-use Rattle.hierarchy.specs.Lists.{HierarchyLists}
-use Rattle.hierarchy.specs.Lookups.{AreFrom, count_below, range_of, from_of}
-use Rattle.hierarchy.specs.Indexes.{AreEndsBelow}
-use Rattle.hierarchy.proofs.LookupLemmas.{from_rises}
-use Rattle.hierarchy.proofs.OffsetLemmas.{are_from, none_from, count_all}
-use Rattle.hierarchy.proofs.RiseLemmas.{range_found}
+use Rattle.plan_base.proofs.Common.{◌≡◌, ℕ, ◌+◌, ◌<◌, ◌∙◌, length, sym, ap, subst, arith, All, All-weaker}
+use Rattle.mode_network.specs.{count_below, range_of}
+use Rattle.hierarchy.specs.{Entry, HierarchyLists, AreFrom, from_of, AreEndsBelow}
+use Rattle.hierarchy.proofs.{LookupLemmas.from_rises, OffsetLemmas.are_from, OffsetLemmas.none_from, RiseLemmas.range_found}
+use Rattle.mode_network.proofs.KeyLemmas.{count_all}
 use Rattle.hierarchy.proofs.hierarchy.Hierarchy.entries_from.Goals as goal
 
 below : (entries : _) (nodes : ℕ) → All (AreEndsBelow nodes) entries → All (λ (e : Entry). e.from < nodes) entries

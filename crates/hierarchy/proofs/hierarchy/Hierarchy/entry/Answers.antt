@@ -1,9 +1,5 @@
-use Rattle.std.proofs.Common.{List, get_or, of_calls, rules, subst, sym}
-use Rattle.std.specs.Prelude.{slice_range}
-use Rattle.std.proofs.lemmas.Fn.{always_returns_same}
-use Rattle.std.proofs.lemmas.List.{get_or_default}
-use Rattle.hierarchy.specs.declared.entry.Entry.{Entry}
-use Rattle.hierarchy.specs.Lookups.{AreFrom, HasNoEntry, IsEntryFor, no_entry}
+use Rattle.plan_base.proofs.Common.{List, get_or, of_calls, rules, subst, sym, slice_range, always_returns_same, get_or_default}
+use Rattle.hierarchy.specs.{Entry, AreFrom, HasNoEntry, IsEntryFor, no_entry}
 use Rattle.hierarchy.proofs.LookupLemmas.{end_cmp, entry_found, entry_missing}
 use Rattle.hierarchy.proofs.hierarchy.Hierarchy.entry.Goals as goal
 

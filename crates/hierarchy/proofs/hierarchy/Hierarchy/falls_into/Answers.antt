@@ -1,6 +1,5 @@
-use Rattle.std.proofs.Common.{◌≡◌, [], sym, subst}
-use Rattle.hierarchy.specs.Lists.{HierarchyLists}
-use Rattle.hierarchy.specs.Lookups.{falls_into}
+use Rattle.plan_base.proofs.Common.{◌≡◌, [], sym, subst}
+use Rattle.hierarchy.specs.{HierarchyLists, falls_into}
 use Rattle.hierarchy.proofs.FallLemmas.{none_past}
 use Rattle.hierarchy.proofs.hierarchy.Hierarchy.falls_into.Goals as goal
 

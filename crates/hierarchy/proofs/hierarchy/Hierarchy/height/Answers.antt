@@ -1,5 +1,5 @@
-use Rattle.std.proofs.Common.{◌≡◌, length, sym, subst}
-use Rattle.hierarchy.specs.Lists.{HierarchyLists, height_in}
+use Rattle.plan_base.proofs.Common.{◌≡◌, length, sym, subst}
+use Rattle.hierarchy.specs.{HierarchyLists, height_in}
 use Rattle.hierarchy.proofs.HeightLemmas.{height_past}
 use Rattle.hierarchy.proofs.hierarchy.Hierarchy.height.Goals as goal
 

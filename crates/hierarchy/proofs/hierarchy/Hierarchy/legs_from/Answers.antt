@@ -1,10 +1,7 @@
-use Rattle.std.proofs.Common.{◌≡◌, ◌∙◌, ◌-◌, cond, [], List, ℕ, ap, drop, map, subst, sym, take, true}
-use Rattle.std.specs.Prelude.{slice_range}
-use Rattle.std.proofs.lemmas.List.{drop-map, take-map}
-use Rattle.search_laws.specs.declared.graph.Leg.{Leg}
-use Rattle.hierarchy.specs.Lists.{HierarchyLists}
-use Rattle.hierarchy.specs.Lookups.{range_of}
-use Rattle.hierarchy.specs.Rises.{all_rises, has_legs, leg_of, legs_from, rise_from, rises_of}
+use Rattle.plan_base.proofs.Common.{◌≡◌, ◌∙◌, ◌-◌, cond, [], List, ℕ, ap, drop, map, subst, sym, take, true, slice_range, drop-map, take-map}
+use Rattle.search_laws.specs.{Leg}
+use Rattle.mode_network.specs.{range_of}
+use Rattle.hierarchy.specs.{HierarchyLists, all_rises, has_legs, leg_of, legs_from, rise_from, rises_of}
 use Rattle.hierarchy.proofs.hierarchy.Hierarchy.legs_from.Goals as goal
 
 pub returns-then-has_legs : goal.returns-then-has_legs

@@ -1,8 +1,6 @@
-use Rattle.std.proofs.Common.{◌≡◌, ◌∙◌, List, ℕ, ap, subst, sym}
-use Rattle.std.specs.Prelude.{slice_range}
-use Rattle.hierarchy.specs.Lists.{HierarchyLists}
-use Rattle.hierarchy.specs.Lookups.{ArePlaces, places_of, range_of}
-use Rattle.hierarchy.specs.Rises.{RisesFrom, all_rises, is_rise, rise_from, rise_places_from}
+use Rattle.plan_base.proofs.Common.{◌≡◌, ◌∙◌, List, ℕ, ap, subst, sym, slice_range}
+use Rattle.mode_network.specs.{range_of}
+use Rattle.hierarchy.specs.{HierarchyLists, ArePlaces, places_of, RisesFrom, all_rises, is_rise, rise_from, rise_places_from}
 use Rattle.hierarchy.proofs.RiseLemmas.{are_rise_places, places_ranged}
 use Rattle.hierarchy.proofs.hierarchy.Hierarchy.rise_places_from.Goals as goal
 

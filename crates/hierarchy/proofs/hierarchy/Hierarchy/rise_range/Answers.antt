@@ -1,7 +1,6 @@
-use Rattle.std.proofs.Common.{◌≡◌, ◌∙◌, ℕ, length, ap, rules, subst, sym}
-use Rattle.hierarchy.specs.Lists.{HierarchyLists}
-use Rattle.hierarchy.specs.Lookups.{range_of}
-use Rattle.hierarchy.specs.Rises.{IsRiseRange, all_rises, rise_from}
+use Rattle.plan_base.proofs.Common.{◌≡◌, ◌∙◌, ℕ, length, ap, rules, subst, sym}
+use Rattle.mode_network.specs.{range_of}
+use Rattle.hierarchy.specs.{HierarchyLists, IsRiseRange, all_rises, rise_from}
 use Rattle.hierarchy.proofs.RiseLemmas.{is_rise_range, range_found, range_past}
 use Rattle.hierarchy.proofs.hierarchy.Hierarchy.rise_range.Goals as goal
 

@@ -1,6 +1,5 @@
-use Rattle.std.proofs.Common.{◌<◌, List, ℕ, length, subst, sym, ◌∙◌}
-use Rattle.std.specs.Prelude.{All}
-use Rattle.hierarchy.specs.Rises.{is_rise}
+use Rattle.plan_base.proofs.Common.{◌<◌, List, ℕ, length, subst, sym, ◌∙◌, All}
+use Rattle.hierarchy.specs.{is_rise}
 use Rattle.hierarchy.proofs.PlaceLemmas.{places_within}
 use Rattle.hierarchy.proofs.tables.Tables.new.Goals as goal
 

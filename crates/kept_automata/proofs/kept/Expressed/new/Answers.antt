@@ -1,4 +1,4 @@
-use Rattle.mode_expression.specs.Form.{form_of}
+use Rattle.mode_expression.specs.{form_of}
 use Rattle.kept_automata.proofs.TextLemmas.{made_of_text}
 use Rattle.kept_automata.proofs.kept.Expressed.new.Goals as goal
 

@@ -1,6 +1,5 @@
-use Rattle.std.proofs.Common.{subst}
-use Rattle.mode_expression.specs.Form.{form_of}
-use Rattle.mode_expression.specs.Reading.{IsExpression}
+use Rattle.plan_base.proofs.Common.{subst}
+use Rattle.mode_expression.specs.{form_of, IsExpression}
 use Rattle.kept_automata.proofs.TextLemmas.{text_spells, known_of_text}
 use Rattle.kept_automata.proofs.kept.Kept.take.Goals as goal
 

@@ -1,5 +1,5 @@
-use Rattle.std.proofs.Common.{subst}
-use Rattle.late_certificate.specs.Verdicts.{IsLateVerdict}
+use Rattle.plan_base.proofs.Common.{subst}
+use Rattle.late_certificate.specs.{IsLateVerdict}
 use Rattle.late_commands.proofs.OutputLemmas.{valid_printable, shown_block}
 use Rattle.late_commands.proofs.verifying.LateCertificatesCertificates.shown.Goals as goal
 

@@ -1,4 +1,4 @@
-use Rattle.automaton.specs.Meanings.{position_meaning}
+use Rattle.automaton.specs.{position_meaning}
 use Rattle.latest_departure.proofs.LateLemmas.{few_moves}
 use Rattle.latest_departure.proofs.backward.BackwardMaker.make.Goals as goal
 

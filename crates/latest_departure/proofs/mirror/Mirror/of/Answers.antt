@@ -1,6 +1,5 @@
-use Rattle.latest_departure.specs.BackLists.{source_rows}
-use Rattle.latest_departure.proofs.MirrorLaws.{mirror_lawful}
-use Rattle.latest_departure.proofs.MirrorWalks.{mirrors_are_journeys, journeys_are_mirrors}
+use Rattle.latest_departure.specs.{source_rows}
+use Rattle.latest_departure.proofs.{MirrorLaws.mirror_lawful, MirrorWalks.mirrors_are_journeys, MirrorWalks.journeys_are_mirrors}
 use Rattle.latest_departure.proofs.mirror.Mirror.of.Goals as goal
 
 pub invariant_of-result : goal.invariant_of-result

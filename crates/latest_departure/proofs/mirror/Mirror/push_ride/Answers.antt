@@ -1,6 +1,6 @@
-use Rattle.std.proofs.Common.{◌≤◌, sym, subst, arith}
-use Rattle.timetable_arcs.specs.Patterns.{TableLists, IsIn, arrives}
-use Rattle.plain_graph.specs.Rides.{IsRideOf}
+use Rattle.plan_base.proofs.Common.{◌≤◌, sym, subst, arith}
+use Rattle.timetable_arcs.specs.{TableLists, IsIn, arrives}
+use Rattle.plain_graph.specs.{IsRideOf}
 use Rattle.plain_graph.proofs.RunLemmas.{is_there}
 use Rattle.latest_departure.proofs.ArcLemmas.{rides_on}
 use Rattle.latest_departure.proofs.mirror.Mirror.push_ride.Goals as goal

@@ -1,9 +1,7 @@
-use Rattle.std.proofs.Common.{◌-◌, ◌<◌, ◌≤◌, Option, length, sym, subst, arith}
-use Rattle.timetable_arcs.specs.declared.trips.Instance.{Instance}
-use Rattle.timetable_arcs.specs.Patterns.{TableLists, IsIn, pattern_trip, arrives}
-use Rattle.timetable_arcs.specs.Runs.{IsLastRun}
+use Rattle.plan_base.proofs.Common.{◌-◌, ◌<◌, ◌≤◌, Option, length, sym, subst, arith}
+use Rattle.timetable_arcs.specs.{Instance, TableLists, IsIn, pattern_trip, arrives, IsLastRun}
 use Rattle.timetable_arcs.proofs.TableLemmas.{trip_of_pattern}
-use Rattle.plain_graph.specs.Lawful.{transit_letter}
+use Rattle.plain_graph.specs.{transit_letter}
 use Rattle.latest_departure.proofs.mirror.Mirror.push_rides.Goals as goal
 
 pub is_open-requires : goal.is_open-requires

@@ -1,5 +1,5 @@
-use Rattle.std.proofs.Common.{ℕ, ◌+◌}
-use Rattle.latest_departure.specs.inside.MirrorWays.{mirror_ride_ways, ride_calls}
+use Rattle.plan_base.proofs.Common.{ℕ, ◌+◌}
+use Rattle.latest_departure.specs.inside.{mirror_ride_ways, ride_calls}
 use Rattle.latest_departure.proofs.TurnedLemmas.{pieces_pushed}
 use Rattle.latest_departure.proofs.mirror.Mirror.push_run.Goals as goal
 

@@ -1,6 +1,5 @@
-use Rattle.std.proofs.Common.{◌≡◌, ◌+◌, ◌++◌}
-use Rattle.std.specs.List.{flat_map, range_with_len}
-use Rattle.latest_departure.specs.inside.MirrorWays.{mirror_ride_ways, ride_calls}
+use Rattle.plan_base.proofs.Common.{◌≡◌, ◌+◌, ◌++◌, flat_map, range_with_len}
+use Rattle.latest_departure.specs.inside.{mirror_ride_ways, ride_calls}
 use Rattle.latest_departure.proofs.mirror.Mirror.push_run.Given as goal
 
 abbrev pub invariant-loop-board : goal.invariant-loop-board

@@ -1,14 +1,8 @@
-use Rattle.std.proofs.Common.{◌≡◌, ◌+◌, ◌<◌, ◌^◌, ◌++◌, ◌∙◌, List, length, get_or, ap, sym, subst, arith}
-use Rattle.std.specs.Prelude.{sum_by}
-use Rattle.std.proofs.lemmas.List.{get_or_default}
-use Rattle.std.proofs.lemmas.List.Sums.{sum_by_more, sum_by_more_le}
-use Rattle.search_laws.specs.Ways.{ways_from}
-use Rattle.latest_departure.specs.declared.source.Entry.{Entry}
-use Rattle.latest_departure.specs.BackLists.{mirrored}
-use Rattle.latest_departure.specs.MirrorArcs.{LeadsInto}
-use Rattle.latest_departure.specs.Known.{entry_count, source_of, no_source_entry}
-use Rattle.latest_departure.proofs.RowLemmas.{entry_leads}
-use Rattle.latest_departure.proofs.WayLemmas.{entry_pushed, row_done}
+use Rattle.plan_base.proofs.Common.{◌≡◌, ◌+◌, ◌<◌, ◌^◌, ◌++◌, ◌∙◌, List, length, get_or, ap, sym, subst, arith, sum_by, get_or_default, sum_by_more}
+use Rattle.std.proofs.lemmas.List.Sums.{sum_by_more_le}
+use Rattle.search_laws.specs.{ways_from}
+use Rattle.latest_departure.specs.{Entry, mirrored, LeadsInto, entry_count, source_of, no_source_entry}
+use Rattle.latest_departure.proofs.{RowLemmas.entry_leads, WayLemmas.entry_pushed, WayLemmas.row_done}
 use Rattle.latest_departure.proofs.mirror.Mirror.push_ways.Goals as goal
 
 pub push_source-requires-clause-leads : goal.push_source-requires-clause-leads

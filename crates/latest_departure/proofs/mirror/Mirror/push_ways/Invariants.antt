@@ -1,8 +1,6 @@
-use Rattle.std.proofs.Common.{◌≡◌, ◌++◌, take}
-use Rattle.std.specs.Prelude.{sum_by}
-use Rattle.search_laws.specs.Ways.{ways_from}
-use Rattle.latest_departure.specs.BackLists.{mirrored}
-use Rattle.latest_departure.specs.Known.{entry_count}
+use Rattle.plan_base.proofs.Common.{◌≡◌, ◌++◌, take, sum_by}
+use Rattle.search_laws.specs.{ways_from}
+use Rattle.latest_departure.specs.{mirrored, entry_count}
 use Rattle.latest_departure.proofs.mirror.Mirror.push_ways.Given as goal
 
 abbrev pub invariant-loop-entry : goal.invariant-loop-entry

@@ -1,5 +1,5 @@
-use Rattle.std.proofs.Common.{◌∙◌, sym}
-use Rattle.latest_departure.specs.Entries.{row_entries}
+use Rattle.plan_base.proofs.Common.{◌∙◌, sym}
+use Rattle.latest_departure.specs.{row_entries}
 use Rattle.latest_departure.proofs.RowLemmas.{total}
 use Rattle.latest_departure.proofs.mirror.MirrorGraph.arcs.Goals as goal
 

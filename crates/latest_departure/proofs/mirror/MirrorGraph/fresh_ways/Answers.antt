@@ -1,9 +1,7 @@
-use Rattle.std.proofs.Common.{[], ◌++◌, List, ◌∙◌, ap, sym}
-use Rattle.search_laws.specs.declared.graph.Way.{Way}
-use Rattle.search_laws.specs.Ways.{ways_past}
-use Rattle.search_laws.proofs.FreshLemmas.{adds_all, adds_moving}
-use Rattle.search_laws.proofs.WayLemmas.{past_none}
-use Rattle.latest_departure.specs.BackLists.{mirrored}
+use Rattle.plan_base.proofs.Common.{[], ◌++◌, List, ◌∙◌, ap, sym}
+use Rattle.search_laws.specs.{Way, ways_past}
+use Rattle.search_laws.proofs.{FreshLemmas.adds_all, FreshLemmas.adds_moving, WayLemmas.past_none}
+use Rattle.latest_departure.specs.{mirrored}
 use Rattle.latest_departure.proofs.mirror.MirrorGraph.fresh_ways.Goals as goal
 
 pub returns : goal.returns

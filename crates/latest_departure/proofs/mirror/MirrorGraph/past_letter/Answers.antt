@@ -1,10 +1,7 @@
-use Rattle.std.proofs.Common.{◌+◌, ◌-◌, ◌<◌, ◌∙◌, ap, sym, arith}
-use Rattle.plain_graph.specs.declared.plain.PlainArc.{PlainArc}
-use Rattle.latest_departure.specs.BackLists.{source_rows}
-use Rattle.latest_departure.specs.Entries.{row_entries}
-use Rattle.latest_departure.specs.MirrorArcs.{count_of, mirror_arc}
-use Rattle.latest_departure.proofs.RowLemmas.{total}
-use Rattle.latest_departure.proofs.SumLemmas.{stood_at, same_letter}
+use Rattle.plan_base.proofs.Common.{◌+◌, ◌-◌, ◌<◌, ◌∙◌, ap, sym, arith}
+use Rattle.plain_graph.specs.{PlainArc}
+use Rattle.latest_departure.specs.{source_rows, row_entries, count_of, mirror_arc}
+use Rattle.latest_departure.proofs.{RowLemmas.total, SumLemmas.stood_at, SumLemmas.same_letter}
 use Rattle.latest_departure.proofs.mirror.MirrorGraph.past_letter.Goals as goal
 
 pub overflow_add-result : goal.overflow_add-result

@@ -1,8 +1,7 @@
-use Rattle.std.proofs.Common.{◌≤◌, ◌^◌, ◌<◌, ℕ, List, sym, subst}
-use Rattle.search_laws.specs.LabelLaws.{IsLawfulLabels}
-use Rattle.latest_departure.specs.Reversed.{IsReversed, AcceptsReversed, StateLists, states_meaning}
-use Rattle.latest_departure.proofs.ReversedLemmas.{accepts_reversed}
-use Rattle.latest_departure.proofs.TurnedLemmas.{made_reversed, made_few, made_lawful}
+use Rattle.plan_base.proofs.Common.{◌≤◌, ◌^◌, ◌<◌, ℕ, List, sym, subst}
+use Rattle.search_laws.specs.{IsLawfulLabels}
+use Rattle.latest_departure.specs.{IsReversed, AcceptsReversed, StateLists, states_meaning}
+use Rattle.latest_departure.proofs.{ReversedLemmas.accepts_reversed, TurnedLemmas.made_reversed, TurnedLemmas.made_few, TurnedLemmas.made_lawful}
 use Rattle.latest_departure.proofs.reversed.Reversed.of.Goals as goal
 
 pub invariant_of-result : goal.invariant_of-result

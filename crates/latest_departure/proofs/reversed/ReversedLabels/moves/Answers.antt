@@ -1,7 +1,5 @@
-use Rattle.std.proofs.Common.{length, ap, arith}
-use Rattle.std.proofs.lemmas.List.{length-map}
-use Rattle.latest_departure.specs.Reversed.{StateLists}
-use Rattle.latest_departure.specs.StateViews.{view_of}
+use Rattle.plan_base.proofs.Common.{length, ap, arith, length-map}
+use Rattle.latest_departure.specs.{StateLists, view_of}
 use Rattle.latest_departure.proofs.TurnedLemmas.{view_read}
 use Rattle.latest_departure.proofs.reversed.ReversedLabels.moves.Goals as goal
 

@@ -1,10 +1,9 @@
-use Rattle.std.proofs.Common.{◌≡◌, ◌-◌, ◌∙◌, ap, subst, arith}
-use Rattle.service_days.specs.DaysMeaning.{DaysMeaning}
-use Rattle.service_days.specs.Days.{AreDays, AreRisingDays, base_of}
-use Rattle.automaton.specs.Meanings.{position_meaning}
-use Rattle.mode_expression.specs.Form.{form_of}
+use Rattle.plan_base.proofs.Common.{◌≡◌, ◌-◌, ◌∙◌, ap, subst, arith}
+use Rattle.service_days.specs.{DaysMeaning.DaysMeaning, AreDays, AreRisingDays, base_of}
+use Rattle.automaton.specs.{position_meaning}
+use Rattle.mode_expression.specs.{form_of}
 use Rattle.kept_automata.proofs.TextLemmas.{query_spells}
-use Rattle.latest_departure.specs.Late.{first_moment}
+use Rattle.latest_departure.specs.{first_moment}
 use Rattle.latest_departure.proofs.DeadlineLemmas.{deadline_is_late, deadline_is_small}
 use Rattle.latest_departure.proofs.search.LateSearch.new.Goals as goal
 

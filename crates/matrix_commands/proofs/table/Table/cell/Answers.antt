@@ -1,12 +1,8 @@
-use Rattle.std.proofs.Common.{inr, Bor, ◌∙◌, ◌<◌, [], List, ℕ, Option, None, length, get_or, sym, subst, arith}
-use Rattle.std.specs.Prelude.{IfOk}
-use Rattle.std.proofs.lemmas.List.{get_or_default, length-map}
-use Rattle.journey.specs.declared.query.Query.{Query}
-use Rattle.planning.specs.Arrivals.{IsArrivalTo, asked_to}
-use Rattle.matrix_commands.specs.Cells.{IsCellOf, query_line_of}
-use Rattle.matrix_commands.specs.inside.Working.{HasArrivals, IsCellIn, IsEndIfAny, cell_of_arrival, lines_in}
-use Rattle.matrix_commands.proofs.CellLemmas.{timed_right}
-use Rattle.matrix_commands.proofs.PairLemmas.{line_at, pair_asks, pair_small}
+use Rattle.plan_base.proofs.Common.{inr, Bor, ◌∙◌, ◌<◌, [], List, ℕ, Option, None, length, get_or, sym, subst, arith, IfOk, get_or_default, length-map}
+use Rattle.journey.specs.{Query}
+use Rattle.planning.specs.{IsArrivalTo, asked_to}
+use Rattle.matrix_commands.specs.{IsCellOf, query_line_of, inside.HasArrivals, inside.IsCellIn, inside.IsEndIfAny, inside.cell_of_arrival, inside.lines_in}
+use Rattle.matrix_commands.proofs.{CellLemmas.timed_right, PairLemmas.line_at, PairLemmas.pair_asks, PairLemmas.pair_small}
 use Rattle.matrix_commands.proofs.table.Table.cell.Goals as goal
 
 pub returns-in-Some-Some : goal.returns-in-Some-Some

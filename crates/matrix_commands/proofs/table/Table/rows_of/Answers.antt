@@ -1,10 +1,6 @@
-use Rattle.std.proofs.Common.{◌≡◌, ◌<◌, ◌++◌, ◌∷◌, [], List, ℕ, Bor, length, get_or, take, sym, subst, arith}
-use Rattle.std.proofs.lemmas.List.{length-map, take_more}
-use Rattle.matrix_commands.specs.Cells.{cell_text}
-use Rattle.matrix_commands.specs.Rows.{AreRowsOf, row_text}
-use Rattle.matrix_commands.specs.inside.Working.{IsCellIn, lines_in}
-use Rattle.matrix_commands.proofs.CellLemmas.{rows_more}
-use Rattle.matrix_commands.proofs.PairLemmas.{line_at}
+use Rattle.plan_base.proofs.Common.{◌≡◌, ◌<◌, ◌++◌, ◌∷◌, [], List, ℕ, Bor, length, get_or, take, sym, subst, arith, length-map, take_more}
+use Rattle.matrix_commands.specs.{cell_text, AreRowsOf, row_text, inside.IsCellIn, inside.lines_in}
+use Rattle.matrix_commands.proofs.{CellLemmas.rows_more, PairLemmas.line_at}
 use Rattle.matrix_commands.proofs.table.Table.rows_of.Goals as goal
 
 pub loop-k-preserved : goal.loop-k-preserved

@@ -1,6 +1,5 @@
-use Rattle.std.proofs.Common.{take}
-use Rattle.matrix_commands.specs.Rows.{AreRowsOf}
-use Rattle.matrix_commands.specs.inside.Working.{lines_in}
+use Rattle.plan_base.proofs.Common.{take}
+use Rattle.matrix_commands.specs.{AreRowsOf, inside.lines_in}
 use Rattle.matrix_commands.proofs.table.Table.rows_of.Given as goal
 
 abbrev pub invariant-loop-k : goal.invariant-loop-k

@@ -1,7 +1,6 @@
-use Rattle.std.proofs.Common.{◌∙◌, sym, below_more, arith}
-use Rattle.mode_expression.proofs.LetterLemmas.{number_of_numbered, name_of_numbered, none_named, some_named, is_numbered}
+use Rattle.plan_base.proofs.Common.{◌∙◌, sym, below_more, arith}
+use Rattle.mode_expression.proofs.{LetterLemmas.number_of_numbered, LetterLemmas.name_of_numbered, LetterLemmas.none_named, LetterLemmas.some_named, LetterLemmas.is_numbered, letter.Letter.from_name.Goals.in-Some+else-eq, letter.Letter.from_name.Goals.in_default}
 use Rattle.mode_expression.proofs.letter.Letter.from_name.Goals as goal
-use Rattle.mode_expression.proofs.letter.Letter.from_name.Goals.{in-Some+else-eq, in_default}
 
 pub loop-number-preserved : goal.loop-number-preserved
 loop-number-preserved c = below_more _ _ c.loop-number.invariant

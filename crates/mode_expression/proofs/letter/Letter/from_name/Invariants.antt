@@ -1,6 +1,5 @@
-use Rattle.std.proofs.Common.{◌≡◌, ◌<◌, ℕ, [], get_or, false}
-use Rattle.std.specs.Str.{bytes_eq}
-use Rattle.plan_base.specs.LetterNames.{letter_names}
+use Rattle.plan_base.proofs.Common.{◌≡◌, ◌<◌, ℕ, [], get_or, false, bytes_eq}
+use Rattle.plan_base.specs.{letter_names}
 use Rattle.mode_expression.proofs.letter.Letter.from_name.Given as goal
 
 -- no letter below this number has the name

@@ -1,4 +1,4 @@
-use Rattle.std.proofs.Common.{◌∙◌}
+use Rattle.plan_base.proofs.Common.{◌∙◌}
 use Rattle.mode_expression.proofs.FormLemmas.{whole_made}
 use Rattle.mode_expression.proofs.level.Level.whole.Goals as goal
 

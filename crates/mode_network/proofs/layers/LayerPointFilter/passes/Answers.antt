@@ -1,5 +1,4 @@
-use Rattle.std.proofs.Common.{rules, w64, SFits, ◌∙◌}
-use Rattle.std.proofs.lemmas.Int.{to_z-of_z}
+use Rattle.plan_base.proofs.Common.{rules, w64, SFits, ◌∙◌, to_z-of_z}
 use Rattle.mode_network.proofs.LayerLemmas.{passes_found, passes_missing}
 use Rattle.mode_network.proofs.layers.LayerPointFilter.passes.Goals as goal
 

@@ -1,12 +1,7 @@
-use Rattle.std.proofs.Common.{◌≡◌, ◌∙◌, length, None, ap, sym, subst, arith}
-use Rattle.plan_base.specs.declared.limits.Caps.{Caps}
-use Rattle.timetable_arcs.specs.Patterns.{TableLists}
-use Rattle.timetable_arcs.specs.Table.{IsTable}
-use Rattle.timetable_arcs.specs.TripRules.{AreTrips}
-use Rattle.mode_network.specs.declared.parts.Parts.TheInside.{Inside}
-use Rattle.mode_network.specs.NetworkLists.{NetworkLists, nodes_of}
-use Rattle.mode_network.specs.Rules.{IsNetwork, AreNamed, AreNames, AreParts, HaveDurations, lists_fault}
-use Rattle.mode_network.specs.Timetables.{IsTimetableOf}
+use Rattle.plan_base.proofs.Common.{◌≡◌, ◌∙◌, length, None, ap, sym, subst, arith}
+use Rattle.plan_base.specs.{Caps}
+use Rattle.timetable_arcs.specs.{TableLists, IsTable, AreTrips}
+use Rattle.mode_network.specs.{declared.parts.Parts.TheInside.Inside, NetworkLists.NetworkLists, nodes_of, IsNetwork, AreNamed, AreNames, AreParts, HaveDurations, lists_fault, IsTimetableOf}
 use Rattle.mode_network.proofs.RuleLemmas.{network_of, links_in_range}
 use Rattle.mode_network.proofs.network.Network.build.Goals as goal
 

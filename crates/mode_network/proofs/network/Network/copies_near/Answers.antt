@@ -1,6 +1,5 @@
-use Rattle.std.proofs.Common.{rules, w64, SFits, subst}
-use Rattle.std.proofs.lemmas.Int.{to_z-of_z}
-use Rattle.mode_network.specs.Copies.{AreExactly, IsRoadCopy}
+use Rattle.plan_base.proofs.Common.{rules, w64, SFits, subst, to_z-of_z}
+use Rattle.mode_network.specs.{AreExactly, IsRoadCopy}
 use Rattle.mode_network.proofs.NearLemmas.{near_copies}
 use Rattle.mode_network.proofs.network.Network.copies_near.Goals as goal
 

@@ -1,6 +1,5 @@
-use Rattle.std.proofs.Common.{rules, w64, SFits, subst}
-use Rattle.std.proofs.lemmas.Int.{to_z-of_z}
-use Rattle.mode_network.specs.Copies.{AreExactly, IsCopyIn}
+use Rattle.plan_base.proofs.Common.{rules, w64, SFits, subst, to_z-of_z}
+use Rattle.mode_network.specs.{AreExactly, IsCopyIn}
 use Rattle.mode_network.proofs.LayerLemmas.{near_copy_in}
 use Rattle.mode_network.proofs.network.Network.copies_near_in.Goals as goal
 

@@ -1,7 +1,5 @@
-use Rattle.std.proofs.Common.{subst, w64}
-use Rattle.std.proofs.lemmas.Int.{to_z-of_z}
-use Rattle.mode_network.specs.NetworkLists.{NetworkLists}
-use Rattle.mode_network.specs.Copies.{AreExactly, IsRoadCopy}
+use Rattle.plan_base.proofs.Common.{subst, w64, to_z-of_z}
+use Rattle.mode_network.specs.{NetworkLists.NetworkLists, AreExactly, IsRoadCopy}
 use Rattle.mode_network.proofs.network.Network.copies_of_id.Goals as goal
 
 pub returns : goal.returns

@@ -1,7 +1,5 @@
-use Rattle.std.proofs.Common.{◌≡◌, ◌<◌, ℕ, length, refl, subst, sym}
-use Rattle.mode_network.specs.declared.indexes.NodeRow.{NodeRow}
-use Rattle.mode_network.specs.NetworkLists.{NetworkLists, nodes_of}
-use Rattle.mode_network.specs.Indexes.{IsRange, range_from}
+use Rattle.plan_base.proofs.Common.{◌≡◌, ◌<◌, ℕ, length, refl, subst, sym}
+use Rattle.mode_network.specs.{NodeRow, nodes_of, IsRange, range_from, NetworkLists.NetworkLists}
 use Rattle.mode_network.proofs.IndexLemmas.{range_read, range_is_range}
 use Rattle.mode_network.proofs.network.Network.links_from.Goals as goal
 

@@ -1,6 +1,5 @@
-use Rattle.std.proofs.Common.{subst}
-use Rattle.mode_network.specs.NetworkLists.{NetworkLists}
-use Rattle.mode_network.specs.Copies.{IsNearestIn}
+use Rattle.plan_base.proofs.Common.{subst}
+use Rattle.mode_network.specs.{NetworkLists.NetworkLists, IsNearestIn}
 use Rattle.mode_network.proofs.LayerLemmas.{nearest_in_layer}
 use Rattle.mode_network.proofs.network.Network.nearest_in.Goals as goal
 

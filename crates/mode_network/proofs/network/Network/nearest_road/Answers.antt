@@ -1,6 +1,5 @@
-use Rattle.std.proofs.Common.{◌^◌, ◌-◌, subst}
-use Rattle.mode_network.specs.NetworkLists.{NetworkLists}
-use Rattle.mode_network.specs.Copies.{IsNearestRoad}
+use Rattle.plan_base.proofs.Common.{◌^◌, ◌-◌, subst}
+use Rattle.mode_network.specs.{NetworkLists.NetworkLists, IsNearestRoad}
 use Rattle.mode_network.proofs.NearLemmas.{nearest_found, same_nearest}
 use Rattle.mode_network.proofs.network.Network.nearest_road.Goals as goal
 

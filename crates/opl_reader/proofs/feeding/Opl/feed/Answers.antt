@@ -1,5 +1,5 @@
-use Rattle.std.proofs.Common.{sym, ap, ◌∙◌, Ok}
-use Rattle.opl_reader.specs.Readers.{state_of}
+use Rattle.plan_base.proofs.Common.{sym, ap, ◌∙◌, Ok}
+use Rattle.opl_reader.specs.{state_of}
 use Rattle.opl_reader.proofs.ReadingLemmas.{none_at_ok, takes, takes_faultless, takes_fault}
 use Rattle.opl_reader.proofs.feeding.Opl.feed.Goals as goal
 

@@ -1,5 +1,5 @@
-use Rattle.std.proofs.Common.{sym, ap, ◌∙◌, Ok}
-use Rattle.opl_reader.specs.Readers.{state_of}
+use Rattle.plan_base.proofs.Common.{sym, ap, ◌∙◌, Ok}
+use Rattle.opl_reader.specs.{state_of}
 use Rattle.opl_reader.proofs.ReadingLemmas.{gives, gives_sound, refuses}
 use Rattle.opl_reader.proofs.feeding.Opl.finish.Goals as goal
 

@@ -1,5 +1,5 @@
-use Rattle.std.proofs.Common.{refl, ap, ◌∙◌, sym, Ok}
-use Rattle.opl_reader.specs.Readers.{fresh}
+use Rattle.plan_base.proofs.Common.{refl, ap, ◌∙◌, sym, Ok}
+use Rattle.opl_reader.specs.{fresh}
 use Rattle.opl_reader.proofs.AppendLemmas.{with_nothing}
 use Rattle.opl_reader.proofs.feeding.Opl.new.Goals as goal
 

@@ -1,7 +1,5 @@
-use Rattle.std.proofs.Common.{sym, ap, subst, ◌∙◌, Ok}
-use Rattle.std.proofs.lemmas.Result.{err_from_is_err_and}
-use Rattle.opl_reader.specs.Gathered.{IsFaultOf}
-use Rattle.opl_reader.specs.Readers.{state_of, on_ok, holding, with_end, with_bytes}
+use Rattle.plan_base.proofs.Common.{sym, ap, subst, ◌∙◌, Ok, err_from_is_err_and}
+use Rattle.opl_reader.specs.{IsFaultOf, state_of, on_ok, holding, with_end, with_bytes}
 use Rattle.opl_reader.proofs.ByteLemmas.{fault_goes_on, line_first, line_none}
 use Rattle.opl_reader.proofs.reader.Reader.take.Goals as goal
 

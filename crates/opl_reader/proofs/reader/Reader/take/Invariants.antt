@@ -1,5 +1,5 @@
-use Rattle.std.proofs.Common.{◌≡◌, length}
-use Rattle.opl_reader.specs.Readers.{state_of, with_bytes}
+use Rattle.plan_base.proofs.Common.{◌≡◌, length}
+use Rattle.opl_reader.specs.{state_of, with_bytes}
 use Rattle.opl_reader.proofs.reader.Reader.take.Given as goal
 
 abbrev pub invariant-loop-line : goal.invariant-loop-line

@@ -1,9 +1,6 @@
-use Rattle.std.proofs.Common.{◌≡◌, ◌∙◌, ◌+◌, ◌-◌, ◌<◌, ◌∷◌, Bool, List, ℕ, length, drop, get_or, refl, ap, arith, subst, sym}
-use Rattle.std.specs.Prelude.{All}
-use Rattle.std.proofs.lemmas.List.{drop_all, drop_more, get_or_default}
+use Rattle.plan_base.proofs.Common.{◌≡◌, ◌∙◌, ◌+◌, ◌-◌, ◌<◌, ◌∷◌, Bool, List, ℕ, length, drop, get_or, refl, ap, arith, subst, sym, All, drop_all, drop_more, get_or_default}
 use Rattle.hierarchy.proofs.FallLemmas.{into_node}
-use Rattle.phase_graph.specs.Marks.{marks_in}
-use Rattle.phase_graph.specs.inside.Falls.{AreChains, HasFalls, IsFallAt, places_into, places_into_all}
+use Rattle.phase_graph.specs.{marks_in, inside.AreChains, inside.HasFalls, inside.IsFallAt, inside.places_into, inside.places_into_all}
 use Rattle.phase_graph.proofs.FallLemmas.{all_falls, are_falls, chains_none, has_falls}
 use Rattle.phase_graph.proofs.falls.FallChains.new.Goals as goal
 

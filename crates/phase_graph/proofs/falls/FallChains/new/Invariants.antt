@@ -1,6 +1,5 @@
-use Rattle.std.proofs.Common.{◌≡◌, drop}
-use Rattle.phase_graph.specs.Marks.{marks_in}
-use Rattle.phase_graph.specs.inside.Falls.{AreChains, places_into_all}
+use Rattle.plan_base.proofs.Common.{◌≡◌, drop}
+use Rattle.phase_graph.specs.{marks_in, inside.AreChains, inside.places_into_all}
 use Rattle.phase_graph.proofs.falls.FallChains.new.Given as goal
 
 -- the falls to the nodes from the place `left` on are in chains

@@ -1,19 +1,9 @@
-use Rattle.std.proofs.Common.{◌≡◌, ◌∙◌, ◌+◌, ◌-◌, ◌<◌, [], ◌∷◌, ◌++◌, ◌^◌, Bool, List, ℕ, true, length, drop, get_or, set, ap, arith, lt-ltb, refl, subst, sym}
-use Rattle.std.specs.Prelude.{All, nat_lt}
+use Rattle.plan_base.proofs.Common.{◌≡◌, ◌∙◌, ◌+◌, ◌-◌, ◌<◌, [], ◌∷◌, ◌++◌, ◌^◌, Bool, List, ℕ, true, length, drop, get_or, set, ap, arith, lt-ltb, refl, subst, sym, All, nat_lt, drop_all, drop_more, get_or_default, get_or-map, length-map, slice_get-get_or}
 use Rattle.std.proofs.Math.Seq.{map-set_same}
-use Rattle.std.proofs.lemmas.List.{drop_all, drop_more, get_or_default, get_or-map, length-map}
-use Rattle.std.proofs.lemmas.Option.{slice_get-get_or}
-use Rattle.hierarchy.specs.declared.falls.Fall.{Fall}
-use Rattle.hierarchy.specs.Lists.{HierarchyLists}
-use Rattle.hierarchy.specs.Lookups.{entry_at, fall_at, falls_into, no_entry}
-use Rattle.hierarchy.specs.Rises.{number_before}
-use Rattle.hierarchy.specs.Rules.{IsHierarchy}
+use Rattle.hierarchy.specs.{Fall, HierarchyLists, entry_at, fall_at, falls_into, no_entry, number_before, IsHierarchy}
 use Rattle.hierarchy.proofs.FallLemmas.{into_node}
-use Rattle.phase_graph.specs.Marks.{has_mark, marks_in}
-use Rattle.phase_graph.specs.inside.Falls.{AreChains, IsFallAt, places_into}
-use Rattle.phase_graph.specs.inside.Marking.{number_at}
-use Rattle.phase_graph.proofs.FallLemmas.{chains_more, leaves_marked}
-use Rattle.phase_graph.proofs.MarkLemmas.{number_if_marked, number_within}
+use Rattle.phase_graph.specs.{has_mark, marks_in, inside.AreChains, inside.IsFallAt, inside.places_into, inside.number_at}
+use Rattle.phase_graph.proofs.{FallLemmas.chains_more, FallLemmas.leaves_marked, MarkLemmas.number_if_marked, MarkLemmas.number_within}
 use Rattle.phase_graph.proofs.falls.FallChains.put_into.Goals as goal
 
 abbrev none : Fall

@@ -1,6 +1,5 @@
-use Rattle.std.proofs.Common.{◌≡◌, ◌++◌, List, ℕ, drop}
-use Rattle.phase_graph.specs.Marks.{marks_in}
-use Rattle.phase_graph.specs.inside.Falls.{AreChains, places_into}
+use Rattle.plan_base.proofs.Common.{◌≡◌, ◌++◌, List, ℕ, drop}
+use Rattle.phase_graph.specs.{marks_in, inside.AreChains, inside.places_into}
 use Rattle.phase_graph.proofs.falls.FallChains.put_into.Given as goal
 
 -- the falls from the place `left` on are put before the others

@@ -1,9 +1,7 @@
-use Rattle.std.proofs.Common.{ap₂, subst}
-use Rattle.mode_network.specs.NetworkLists.{NetworkLists}
-use Rattle.mode_network.specs.Timetables.{IsTimetableOf}
-use Rattle.hierarchy.specs.Lists.{HierarchyLists}
-use Rattle.phase_graph.specs.Marks.{marks_in}
-use Rattle.phase_graph.specs.PhaseArcs.{phase_meaning}
+use Rattle.plan_base.proofs.Common.{ap₂, subst}
+use Rattle.mode_network.specs.{NetworkLists.NetworkLists, IsTimetableOf}
+use Rattle.hierarchy.specs.{HierarchyLists}
+use Rattle.phase_graph.specs.{marks_in, phase_meaning}
 use Rattle.phase_graph.proofs.in_use.GraphInUse.new.Goals as goal
 
 pub returns-in_ok-phases-in-Some-clause-is : goal.returns-in_ok-phases-in-Some-clause-is

@@ -1,8 +1,5 @@
-use Rattle.std.proofs.Common.{◌≡◌, ◌∙◌, ◌+◌, ◌<◌, nat_eq, inl, inr, Bool, true, false, List, ℕ, length, length-set, drop, get_or, set, refl, arith, subst, sym}
-use Rattle.std.specs.Prelude.{Contains}
-use Rattle.std.proofs.lemmas.Bool.{eqb-true, eqb-false}
-use Rattle.std.proofs.lemmas.List.{drop_more, get_or-set_other, get_or-set_same}
-use Rattle.phase_graph.specs.inside.Marking.{number_at}
+use Rattle.plan_base.proofs.Common.{◌≡◌, ◌∙◌, ◌+◌, ◌<◌, nat_eq, inl, inr, Bool, true, false, List, ℕ, length, length-set, drop, get_or, set, refl, arith, subst, sym, Contains, eqb-true, eqb-false, drop_more, get_or-set_other, get_or-set_same}
+use Rattle.phase_graph.specs.inside.{number_at}
 use Rattle.phase_graph.proofs.FallLemmas.{first_or_later}
 use Rattle.phase_graph.proofs.mark_table.MarkTable.put.Goals as goal
 

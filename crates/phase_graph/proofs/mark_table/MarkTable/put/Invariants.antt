@@ -1,6 +1,5 @@
-use Rattle.std.proofs.Common.{◌≡◌, ℕ, drop, length}
-use Rattle.std.specs.Prelude.{Contains}
-use Rattle.phase_graph.specs.inside.Marking.{number_at}
+use Rattle.plan_base.proofs.Common.{◌≡◌, ℕ, drop, length, Contains}
+use Rattle.phase_graph.specs.inside.{number_at}
 use Rattle.phase_graph.proofs.mark_table.MarkTable.put.Given as goal
 
 -- the nodes that are left alone may have other numbers than 0

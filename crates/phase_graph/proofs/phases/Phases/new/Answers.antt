@@ -1,15 +1,9 @@
-use Rattle.std.proofs.Common.{Bool, List, sym, subst}
-use Rattle.search_laws.specs.GraphLaws.{IsLawfulGraph}
+use Rattle.plan_base.proofs.Common.{Bool, List, sym, subst}
+use Rattle.search_laws.specs.{IsLawfulGraph}
 use Rattle.mode_network.specs.NetworkLists.{NetworkLists}
-use Rattle.hierarchy.specs.Indexes.{AreBelow}
-use Rattle.hierarchy.specs.Soundness.{IsSound}
-use Rattle.phase_graph.specs.Marks.{AreMarksFor, marks_in}
-use Rattle.phase_graph.specs.PhaseArcs.{phase_meaning}
-use Rattle.phase_graph.specs.inside.Marking.{AreMarked}
-use Rattle.phase_graph.proofs.GraphLemmas.{lawful, below_nodes}
-use Rattle.phase_graph.proofs.GraphMoves.{is_phase_graph}
-use Rattle.phase_graph.proofs.MarkLemmas.{are_listed}
-use Rattle.phase_graph.proofs.WalkedLemmas.{journeys_have_walks, walks_have_journeys}
+use Rattle.hierarchy.specs.{AreBelow, IsSound}
+use Rattle.phase_graph.specs.{AreMarksFor, marks_in, phase_meaning, inside.AreMarked}
+use Rattle.phase_graph.proofs.{GraphLemmas.lawful, GraphLemmas.below_nodes, GraphMoves.is_phase_graph, MarkLemmas.are_listed, WalkedLemmas.journeys_have_walks, WalkedLemmas.walks_have_journeys}
 use Rattle.phase_graph.proofs.phases.Phases.new.Goals as goal
 
 pub mark_nodes-requires : goal.mark_nodes-requires

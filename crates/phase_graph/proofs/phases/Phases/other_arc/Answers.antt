@@ -1,4 +1,4 @@
-use Rattle.std.proofs.Common.{arith}
+use Rattle.plan_base.proofs.Common.{arith}
 use Rattle.phase_graph.proofs.phases.Phases.other_arc.Goals as goal
 
 pub number_of-requires : goal.number_of-requires

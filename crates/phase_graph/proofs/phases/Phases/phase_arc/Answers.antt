@@ -1,10 +1,8 @@
-use Rattle.std.proofs.Common.{◌+◌, ◌-◌, ◌<◌, length, sym, subst, arith}
-use Rattle.std.proofs.lemmas.Option.{slice_get-get_or}
-use Rattle.timetable_arcs.specs.Table.{IsTable}
-use Rattle.hierarchy.specs.Lookups.{entry_at, no_entry}
-use Rattle.phase_graph.specs.PhaseArcs.{rises_at, entries_at, others_at, node_of, is_down}
-use Rattle.phase_graph.proofs.PlaceLemmas.{up_known, down_known, other_known, other_fits}
-use Rattle.phase_graph.proofs.WayTies.{few_others}
+use Rattle.plan_base.proofs.Common.{◌+◌, ◌-◌, ◌<◌, length, sym, subst, arith, slice_get-get_or}
+use Rattle.timetable_arcs.specs.{IsTable}
+use Rattle.hierarchy.specs.{entry_at, no_entry}
+use Rattle.phase_graph.specs.{rises_at, entries_at, others_at, node_of, is_down}
+use Rattle.phase_graph.proofs.{PlaceLemmas.up_known, PlaceLemmas.down_known, PlaceLemmas.other_known, PlaceLemmas.other_fits, WayTies.few_others}
 use Rattle.phase_graph.proofs.phases.Phases.phase_arc.Goals as goal
 
 pub returns-then-i-ups-clause-value : goal.returns-then-i-ups-clause-value

@@ -1,12 +1,8 @@
-use Rattle.std.proofs.Common.{◌≤◌, ◌∙◌, ap, arith, sym}
-use Rattle.search_laws.specs.Ways.{is_open}
-use Rattle.std.specs.Prelude.{slice_index_or}
-use Rattle.phase_graph.specs.Marks.{marks_in}
-use Rattle.phase_graph.specs.PhaseArcs.{node_of}
-use Rattle.phase_graph.proofs.FallLemmas.{chain_ended}
-use Rattle.phase_graph.proofs.WayTies.{falls_closed, falls_ended}
+use Rattle.plan_base.proofs.Common.{◌≤◌, ◌∙◌, ap, arith, sym, slice_index_or}
+use Rattle.search_laws.specs.{is_open}
+use Rattle.phase_graph.specs.{marks_in, node_of}
+use Rattle.phase_graph.proofs.{FallLemmas.chain_ended, WayTies.falls_closed, WayTies.falls_ended, phases.Phases.push_falls.Goals.else-first_from-gt1-via-then-first_from-gt1+else-is_open, phases.Phases.push_falls.Goals.else-first_from-gt1-via-else-first_from-gt1}
 use Rattle.phase_graph.proofs.phases.Phases.push_falls.Goals as goal
-use Rattle.phase_graph.proofs.phases.Phases.push_falls.Goals.{else-first_from-gt1-via-then-first_from-gt1+else-is_open, else-first_from-gt1-via-else-first_from-gt1}
 
 pub returns-else-first_from-gt1 : goal.returns-else-first_from-gt1
 returns-else-first_from-gt1 c =

@@ -1,9 +1,7 @@
-use Rattle.std.proofs.Common.{◌+◌, ◌*◌, ◌^◌, ◌<◌, length, refl, arith}
-use Rattle.std.proofs.lemmas.Result.{on_ok_weaker}
-use Rattle.search_laws.specs.Ways.{ways_from}
+use Rattle.plan_base.proofs.Common.{◌+◌, ◌*◌, ◌^◌, ◌<◌, length, refl, arith, on_ok_weaker}
+use Rattle.search_laws.specs.{ways_from}
 use Rattle.search_laws.proofs.FreshLemmas.{adds_all}
-use Rattle.phase_graph.specs.Marks.{marks_in}
-use Rattle.phase_graph.specs.PhaseArcs.{phase_meaning, phase_rides, rises_at, entries_at, others_at, node_of, is_down}
+use Rattle.phase_graph.specs.{marks_in, phase_meaning, phase_rides, rises_at, entries_at, others_at, node_of, is_down}
 use Rattle.phase_graph.proofs.phases.Phases.push_fresh_others.Goals as goal
 
 pub overflow_add-first : goal.overflow_add-first

@@ -1,7 +1,6 @@
-use Rattle.std.proofs.Common.{◌≡◌, length, subst, arith}
-use Rattle.timetable_arcs.specs.Table.{IsTable}
-use Rattle.phase_graph.specs.Marks.{marks_in}
-use Rattle.phase_graph.specs.PhaseArcs.{node_of}
+use Rattle.plan_base.proofs.Common.{◌≡◌, length, subst, arith}
+use Rattle.timetable_arcs.specs.{IsTable}
+use Rattle.phase_graph.specs.{marks_in, node_of}
 use Rattle.phase_graph.proofs.WayTies.{some_fit, put_fresh_behind}
 use Rattle.phase_graph.proofs.phases.Phases.push_fresh_plain.Goals as goal
 

@@ -1,10 +1,7 @@
-use Rattle.std.proofs.Common.{◌*◌, ◌∙◌, ◌^◌, ◌<◌, ◌++◌, List, length, ap, refl, arith}
-use Rattle.search_laws.specs.declared.graph.Way.{Way}
-use Rattle.phase_graph.specs.Marks.{marks_in}
-use Rattle.phase_graph.specs.PhaseArcs.{entries_at, first_entry, node_of}
-use Rattle.phase_graph.specs.inside.Falls.{falls_from}
-use Rattle.phase_graph.proofs.FallLemmas.{all_appended, chain_within, falls_within, next_appended}
-use Rattle.phase_graph.proofs.WayTies.{fall_ways}
+use Rattle.plan_base.proofs.Common.{◌*◌, ◌∙◌, ◌^◌, ◌<◌, ◌++◌, List, length, ap, refl, arith}
+use Rattle.search_laws.specs.{Way}
+use Rattle.phase_graph.specs.{marks_in, entries_at, first_entry, node_of, inside.falls_from}
+use Rattle.phase_graph.proofs.{FallLemmas.all_appended, FallLemmas.chain_within, FallLemmas.falls_within, FallLemmas.next_appended, WayTies.fall_ways}
 use Rattle.phase_graph.proofs.phases.Phases.push_open_falls.Goals as goal
 
 pub loop-number-init : goal.loop-number-init

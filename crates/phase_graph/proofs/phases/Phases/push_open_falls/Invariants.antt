@@ -1,7 +1,5 @@
-use Rattle.std.proofs.Common.{◌++◌, map}
-use Rattle.phase_graph.specs.Marks.{marks_in}
-use Rattle.phase_graph.specs.PhaseArcs.{entries_at, first_entry, node_of}
-use Rattle.phase_graph.specs.inside.Falls.{fall_way, falls_from}
+use Rattle.plan_base.proofs.Common.{◌++◌, map}
+use Rattle.phase_graph.specs.{marks_in, entries_at, first_entry, node_of, inside.fall_way, inside.falls_from}
 use Rattle.phase_graph.proofs.FallLemmas.{AreAppended}
 use Rattle.phase_graph.proofs.phases.Phases.push_open_falls.Given as goal
 

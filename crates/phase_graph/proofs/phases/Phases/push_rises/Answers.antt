@@ -1,11 +1,7 @@
-use Rattle.std.proofs.Common.{◌≡◌, ◌+◌, ◌-◌, ◌++◌, ◌∙◌, ℕ, length, ap, arith, sym, subst}
-use Rattle.std.specs.Prelude.{IfSome}
-use Rattle.search_laws.specs.Letters.{IsLetter}
-use Rattle.search_laws.specs.Ways.{ways_from}
-use Rattle.search_laws.specs.declared.graph.GraphArc.{GraphArc}
+use Rattle.plan_base.proofs.Common.{◌≡◌, ◌+◌, ◌-◌, ◌++◌, ◌∙◌, ℕ, length, ap, arith, sym, subst, IfSome}
+use Rattle.search_laws.specs.{IsLetter, ways_from, GraphArc}
 use Rattle.search_laws.proofs.WayLemmas.{ways_pushed}
-use Rattle.phase_graph.specs.Marks.{marks_in}
-use Rattle.phase_graph.specs.PhaseArcs.{is_down, node_of, phase_meaning, rises_at}
+use Rattle.phase_graph.specs.{marks_in, is_down, node_of, phase_meaning, rises_at}
 use Rattle.phase_graph.proofs.phases.Phases.push_rises.Goals as goal
 
 pub arc_at-arc-requires-clause-arc : goal.arc_at-arc-requires-clause-arc

@@ -1,7 +1,6 @@
-use Rattle.std.proofs.Common.{◌≡◌, ◌≤◌, ◌++◌}
-use Rattle.search_laws.specs.Ways.{ways_from}
-use Rattle.phase_graph.specs.Marks.{marks_in}
-use Rattle.phase_graph.specs.PhaseArcs.{phase_meaning}
+use Rattle.plan_base.proofs.Common.{◌≡◌, ◌≤◌, ◌++◌}
+use Rattle.search_laws.specs.{ways_from}
+use Rattle.phase_graph.specs.{marks_in, phase_meaning}
 use Rattle.phase_graph.proofs.phases.Phases.push_rises.Given as goal
 
 abbrev pub invariant-loop-i : goal.invariant-loop-i

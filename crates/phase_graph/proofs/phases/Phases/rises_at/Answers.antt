@@ -1,7 +1,5 @@
-use Rattle.std.proofs.Common.{get_or, sym}
-use Rattle.std.proofs.lemmas.List.{get_or_default}
-use Rattle.std.proofs.lemmas.Option.{slice_get-get_or}
-use Rattle.hierarchy.specs.Lookups.{entry_at, no_entry}
+use Rattle.plan_base.proofs.Common.{get_or, sym, get_or_default, slice_get-get_or}
+use Rattle.hierarchy.specs.{entry_at, no_entry}
 use Rattle.phase_graph.proofs.phases.Phases.rises_at.Goals as goal
 
 pub returns-else-down-clause-each : goal.returns-else-down-clause-each

@@ -1,5 +1,5 @@
-use Rattle.std.proofs.Common.{◌∙◌, ap}
-use Rattle.phase_graph.specs.PhaseArcs.{arc_of, node_of, is_down}
+use Rattle.plan_base.proofs.Common.{◌∙◌, ap}
+use Rattle.phase_graph.specs.{arc_of, node_of, is_down}
 use Rattle.phase_graph.proofs.phases.PhasesGraph.arc_at.Goals as goal
 
 pub other_arc-requires-clause-arc : goal.other_arc-requires-clause-arc

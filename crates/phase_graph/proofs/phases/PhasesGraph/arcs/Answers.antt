@@ -1,6 +1,6 @@
-use Rattle.std.proofs.Common.{◌*◌, ◌^◌, ◌<◌, length, refl, subst, arith}
-use Rattle.timetable_arcs.specs.Table.{IsTable}
-use Rattle.phase_graph.specs.PhaseArcs.{node_of, is_down}
+use Rattle.plan_base.proofs.Common.{◌*◌, ◌^◌, ◌<◌, length, refl, subst, arith}
+use Rattle.timetable_arcs.specs.{IsTable}
+use Rattle.phase_graph.specs.{node_of, is_down}
 use Rattle.phase_graph.proofs.WayTies.{few_others}
 use Rattle.phase_graph.proofs.phases.PhasesGraph.arcs.Goals as goal
 

@@ -1,6 +1,5 @@
-use Rattle.std.proofs.Common.{◌∙◌, ap}
-use Rattle.phase_graph.specs.Marks.{marks_in}
-use Rattle.phase_graph.specs.PhaseArcs.{node_of, phase_arrival}
+use Rattle.plan_base.proofs.Common.{◌∙◌, ap}
+use Rattle.phase_graph.specs.{marks_in, node_of, phase_arrival}
 use Rattle.phase_graph.proofs.phases.PhasesGraph.arrive.Goals as goal
 
 pub arrive-requires-clause-arc : goal.arrive-requires-clause-arc

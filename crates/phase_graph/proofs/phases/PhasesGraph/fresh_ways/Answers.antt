@@ -1,17 +1,10 @@
-use Rattle.std.proofs.Common.{◌≡◌, ◌+◌, ◌++◌, ◌∙◌, ℕ, List, ap, arith, length, sym, subst, true, false}
-use Rattle.std.specs.Prelude.{OnOk}
-use Rattle.std.proofs.lemmas.Result.{on_ok_weaker}
-use Rattle.search_laws.specs.Fresh.{AddsMoving}
-use Rattle.search_laws.specs.Ways.{moving_letters, ways_from, ways_past}
-use Rattle.search_laws.specs.declared.graph.Way.{Way}
-use Rattle.mode_network.specs.NetworkLists.{letter_at}
-use Rattle.hierarchy.specs.Rises.{has_legs}
-use Rattle.phase_graph.specs.Marks.{marks_in}
-use Rattle.phase_graph.specs.PhaseArcs.{entries_at, is_down, legs_at, node_of, phase_meaning, phase_rides, rises_at}
-use Rattle.phase_graph.proofs.LegLemmas.{legs_none, legs_whole}
-use Rattle.phase_graph.proofs.WayTies.{all_along, moving_joined}
+use Rattle.plan_base.proofs.Common.{◌≡◌, ◌+◌, ◌++◌, ◌∙◌, ℕ, List, ap, arith, length, sym, subst, true, false, OnOk, on_ok_weaker}
+use Rattle.search_laws.specs.{AddsMoving, moving_letters, ways_from, ways_past, Way}
+use Rattle.mode_network.specs.{letter_at}
+use Rattle.hierarchy.specs.{has_legs}
+use Rattle.phase_graph.specs.{marks_in, entries_at, is_down, legs_at, node_of, phase_meaning, phase_rides, rises_at}
+use Rattle.phase_graph.proofs.{LegLemmas.legs_none, LegLemmas.legs_whole, WayTies.all_along, WayTies.moving_joined, phases.PhasesGraph.fresh_ways.Goals.then-not-has_legs+in_ok-push_rises, phases.PhasesGraph.fresh_ways.Goals.else-not-has_legs}
 use Rattle.phase_graph.proofs.phases.PhasesGraph.fresh_ways.Goals as goal
-use Rattle.phase_graph.proofs.phases.PhasesGraph.fresh_ways.Goals.{then-not-has_legs+in_ok-push_rises, else-not-has_legs}
 
 pub returns : goal.returns
 returns c =

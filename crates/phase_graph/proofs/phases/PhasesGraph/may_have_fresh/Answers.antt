@@ -1,15 +1,9 @@
-use Rattle.std.proofs.Common.{◌≡◌, ◌+◌, ◌∙◌, sym, ap, subst, []}
-use Rattle.std.proofs.lemmas.Bool.{not-false}
-use Rattle.std.specs.Prelude.{slice_index_or}
-use Rattle.search_laws.specs.Fresh.{AddsMoving, visit_by}
-use Rattle.search_laws.specs.Ways.{moving_letters, ways_from, ways_past}
-use Rattle.mode_network.specs.NetworkLists.{letter_at}
-use Rattle.plain_graph.specs.PlainArcs.{plain_meaning, count_from, inner_arcs_at}
-use Rattle.phase_graph.specs.Marks.{marks_in}
-use Rattle.phase_graph.specs.PhaseArcs.{is_down, node_of, phase_meaning, phase_rides}
-use Rattle.phase_graph.proofs.FallLemmas.{chain_ended}
-use Rattle.phase_graph.proofs.LegLemmas.{legs_whole}
-use Rattle.phase_graph.proofs.WayTies.{none_left}
+use Rattle.plan_base.proofs.Common.{◌≡◌, ◌+◌, ◌∙◌, sym, ap, subst, [], not-false, slice_index_or}
+use Rattle.search_laws.specs.{AddsMoving, visit_by, moving_letters, ways_from, ways_past}
+use Rattle.mode_network.specs.{letter_at}
+use Rattle.plain_graph.specs.{plain_meaning, count_from, inner_arcs_at}
+use Rattle.phase_graph.specs.{marks_in, is_down, node_of, phase_meaning, phase_rides}
+use Rattle.phase_graph.proofs.{FallLemmas.chain_ended, LegLemmas.legs_whole, WayTies.none_left}
 use Rattle.phase_graph.proofs.phases.PhasesGraph.may_have_fresh.Goals as goal
 
 pub returns : goal.returns

@@ -1,11 +1,7 @@
-use Rattle.std.proofs.Common.{◌<◌, ◌∙◌, List, length, ap, get_or, sym, subst, arith}
-use Rattle.search_laws.specs.Ways.{IsLeg}
-use Rattle.search_laws.specs.declared.graph.Leg.{Leg}
-use Rattle.phase_graph.specs.Marks.{marks_in}
-use Rattle.phase_graph.specs.declared.phases.PhaseArc.{PhaseArc}
-use Rattle.phase_graph.specs.PhaseArcs.{arc_of, node_of, is_down, phase_meaning}
-use Rattle.phase_graph.proofs.LegLemmas.{leg_is, legs_few}
-use Rattle.phase_graph.proofs.PlaceLemmas.{up_known}
+use Rattle.plan_base.proofs.Common.{◌<◌, ◌∙◌, List, length, ap, get_or, sym, subst, arith}
+use Rattle.search_laws.specs.{IsLeg, Leg}
+use Rattle.phase_graph.specs.{marks_in, PhaseArc, arc_of, node_of, is_down, phase_meaning}
+use Rattle.phase_graph.proofs.{LegLemmas.leg_is, LegLemmas.legs_few, PlaceLemmas.up_known}
 use Rattle.phase_graph.proofs.phases.PhasesGraph.steady.Goals as goal
 
 pub returns-clause-count : goal.returns-clause-count

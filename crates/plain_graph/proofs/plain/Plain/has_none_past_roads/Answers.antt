@@ -1,5 +1,4 @@
-use Rattle.std.proofs.Common.{ℕ, sym, ap, ◌∙◌, arith}
-use Rattle.std.proofs.lemmas.Bool.{not-true}
+use Rattle.plan_base.proofs.Common.{ℕ, sym, ap, ◌∙◌, arith, not-true}
 use Rattle.plain_graph.proofs.PlaceTies.{none_past_roads}
 use Rattle.plain_graph.proofs.plain.Plain.has_none_past_roads.Goals as goal
 

@@ -1,4 +1,4 @@
-use Rattle.plain_graph.specs.Lawful.{plain_lawful}
+use Rattle.plain_graph.specs.{plain_lawful}
 use Rattle.plain_graph.proofs.Same.{walks_are_journeys, journeys_are_walks, arcs_are_steps, steps_are_arcs}
 use Rattle.plain_graph.proofs.plain.Plain.new.Goals as goal
 

@@ -1,7 +1,7 @@
-use Rattle.std.proofs.Common.{length}
-use Rattle.timetable_arcs.specs.Patterns.{pattern_trip}
+use Rattle.plan_base.proofs.Common.{length}
+use Rattle.timetable_arcs.specs.{pattern_trip}
 use Rattle.timetable_arcs.proofs.TableLemmas.{trip_of_pattern}
-use Rattle.plain_graph.specs.Lawful.{transit_letter}
+use Rattle.plain_graph.specs.{transit_letter}
 use Rattle.plain_graph.proofs.plain.Plain.open_run.Goals as goal
 
 pub is_open-requires : goal.is_open-requires

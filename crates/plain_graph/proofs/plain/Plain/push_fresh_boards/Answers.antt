@@ -1,7 +1,6 @@
-use Rattle.std.proofs.Common.{arith}
-use Rattle.timetable_arcs.specs.Rides.{boards_at}
-use Rattle.plain_graph.proofs.BoardTies.{board_known}
-use Rattle.plain_graph.proofs.FreshTies.{board_more}
+use Rattle.plan_base.proofs.Common.{arith}
+use Rattle.timetable_arcs.specs.{boards_at}
+use Rattle.plain_graph.proofs.{BoardTies.board_known, FreshTies.board_more}
 use Rattle.plain_graph.proofs.plain.Plain.push_fresh_boards.Goals as goal
 
 pub overflow_add-placed : goal.overflow_add-placed

@@ -1,7 +1,7 @@
-use Rattle.std.proofs.Common.{take}
-use Rattle.timetable_arcs.specs.Rides.{boards_at}
-use Rattle.search_laws.specs.Fresh.{AddsFresh}
-use Rattle.plain_graph.specs.BoardWays.{boards_ways, plain_rides}
+use Rattle.plan_base.proofs.Common.{take}
+use Rattle.timetable_arcs.specs.{boards_at}
+use Rattle.search_laws.specs.{AddsFresh}
+use Rattle.plain_graph.specs.{boards_ways, plain_rides}
 use Rattle.plain_graph.proofs.plain.Plain.push_fresh_boards.Given as goal
 
 abbrev pub invariant-loop-board : goal.invariant-loop-board

@@ -1,10 +1,7 @@
-use Rattle.std.proofs.Common.{List, ◌∙◌, sym, subst, rules}
-use Rattle.search_laws.specs.declared.graph.Way.{Way}
-use Rattle.search_laws.specs.Fresh.{AddsFresh}
-use Rattle.search_laws.specs.Ways.{ways_from}
+use Rattle.plan_base.proofs.Common.{List, ◌∙◌, sym, subst, rules}
+use Rattle.search_laws.specs.{Way, AddsFresh, ways_from}
 use Rattle.search_laws.proofs.FreshLemmas.{adds_all}
-use Rattle.plain_graph.specs.BoardWays.{plain_rides}
-use Rattle.plain_graph.specs.PlainArcs.{plain_meaning, inner_arcs_at}
+use Rattle.plain_graph.specs.{plain_rides, plain_meaning, inner_arcs_at}
 use Rattle.plain_graph.proofs.PlaceTies.{rides_ways}
 use Rattle.plain_graph.proofs.plain.Plain.push_fresh_inner.Goals as goal
 

@@ -1,11 +1,7 @@
-use Rattle.std.proofs.Common.{◌+◌, List, sym, subst}
-use Rattle.search_laws.specs.declared.graph.Way.{Way}
-use Rattle.search_laws.specs.Fresh.{AddsFresh}
-use Rattle.search_laws.specs.Ways.{ways_from}
-use Rattle.search_laws.proofs.FreshLemmas.{adds_all, adds_more}
-use Rattle.search_laws.proofs.WayLemmas.{ways_split}
-use Rattle.plain_graph.specs.BoardWays.{plain_rides}
-use Rattle.plain_graph.specs.PlainArcs.{plain_meaning, count_from, inner_arcs_at}
+use Rattle.plan_base.proofs.Common.{◌+◌, List, sym, subst}
+use Rattle.search_laws.specs.{Way, AddsFresh, ways_from}
+use Rattle.search_laws.proofs.{FreshLemmas.adds_all, FreshLemmas.adds_more, WayLemmas.ways_split}
+use Rattle.plain_graph.specs.{plain_rides, plain_meaning, count_from, inner_arcs_at}
 use Rattle.plain_graph.proofs.plain.Plain.push_fresh_past_roads.Goals as goal
 
 pub returns : goal.returns

@@ -1,10 +1,7 @@
-use Rattle.std.proofs.Common.{◌<◌, length, arith}
+use Rattle.plan_base.proofs.Common.{◌<◌, length, arith}
 use Rattle.std.proofs.lemmas.List.Elements.{All-take}
-use Rattle.timetable_arcs.specs.declared.trips.Call.{Call}
-use Rattle.timetable_arcs.specs.Patterns.{trip_at}
-use Rattle.plain_graph.proofs.RunLemmas.{run_known}
-use Rattle.plain_graph.proofs.FreshTies.{IsPast, run_given, past_all, past_call, run_fresh}
-use Rattle.plain_graph.proofs.plain.Plain.push_fresh_run.Goals.{in-Some-2, in-None}
+use Rattle.timetable_arcs.specs.{Call, trip_at}
+use Rattle.plain_graph.proofs.{RunLemmas.run_known, FreshTies.IsPast, FreshTies.run_given, FreshTies.past_all, FreshTies.past_call, FreshTies.run_fresh, plain.Plain.push_fresh_run.Goals.in-Some-2, plain.Plain.push_fresh_run.Goals.in-None}
 use Rattle.plain_graph.proofs.plain.Plain.push_fresh_run.Goals as goal
 
 pub returns-in-Some : goal.returns-in-Some

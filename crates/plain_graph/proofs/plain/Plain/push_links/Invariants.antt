@@ -1,6 +1,6 @@
-use Rattle.std.proofs.Common.{◌≡◌, ◌++◌}
-use Rattle.search_laws.specs.Ways.{ways_from}
-use Rattle.plain_graph.specs.PlainArcs.{plain_meaning}
+use Rattle.plan_base.proofs.Common.{◌≡◌, ◌++◌}
+use Rattle.search_laws.specs.{ways_from}
+use Rattle.plain_graph.specs.{plain_meaning}
 use Rattle.plain_graph.proofs.plain.Plain.push_links.Given as goal
 
 abbrev pub invariant-loop-i : goal.invariant-loop-i

@@ -1,7 +1,6 @@
-use Rattle.std.proofs.Common.{◌++◌}
-use Rattle.std.specs.Prelude.{slice_index}
-use Rattle.timetable_arcs.specs.Patterns.{pattern_trip}
-use Rattle.plain_graph.specs.BoardWays.{day_ways}
+use Rattle.plan_base.proofs.Common.{◌++◌, slice_index}
+use Rattle.timetable_arcs.specs.{pattern_trip}
+use Rattle.plain_graph.specs.{day_ways}
 use Rattle.plain_graph.proofs.BoardTies.{rides_pushed}
 use Rattle.plain_graph.proofs.plain.Plain.push_rides.Goals as goal
 

@@ -1,5 +1,5 @@
-use Rattle.std.proofs.Common.{◌≡◌, ◌≤◌, ◌+◌, ◌++◌, drop}
-use Rattle.plain_graph.specs.BoardWays.{call_ways}
+use Rattle.plan_base.proofs.Common.{◌≡◌, ◌≤◌, ◌+◌, ◌++◌, drop}
+use Rattle.plain_graph.specs.{call_ways}
 use Rattle.plain_graph.proofs.plain.Plain.push_rides.Given as goal
 
 abbrev pub invariant-loop-later : goal.invariant-loop-later

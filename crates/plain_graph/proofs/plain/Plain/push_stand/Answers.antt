@@ -1,4 +1,4 @@
-use Rattle.std.proofs.Common.{sym}
+use Rattle.plan_base.proofs.Common.{sym}
 use Rattle.plain_graph.proofs.PlaceTies.{stand_ways, stand_closed, nothing_more, these_more}
 use Rattle.plain_graph.proofs.plain.Plain.push_stand.Goals as goal
 

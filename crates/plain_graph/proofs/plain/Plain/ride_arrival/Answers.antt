@@ -1,4 +1,4 @@
-use Rattle.std.proofs.Common.{◌∙◌, sym}
+use Rattle.plan_base.proofs.Common.{◌∙◌, sym}
 use Rattle.plain_graph.proofs.RunLemmas.{run_there}
 use Rattle.plain_graph.proofs.plain.Plain.ride_arrival.Goals as goal
 

@@ -1,9 +1,8 @@
-use Rattle.std.proofs.Common.{◌≡◌, ◌+◌, ◌-◌, ap, ◌∙◌, arith}
-use Rattle.std.proofs.lemmas.Result.{on_ok_weaker}
-use Rattle.search_laws.specs.Ways.{moving_letters, ways_from}
+use Rattle.plan_base.proofs.Common.{◌≡◌, ◌+◌, ◌-◌, ap, ◌∙◌, arith, on_ok_weaker}
+use Rattle.search_laws.specs.{moving_letters, ways_from}
 use Rattle.search_laws.proofs.FreshLemmas.{moving_asked}
-use Rattle.mode_network.specs.NetworkLists.{letter_at}
-use Rattle.plain_graph.specs.PlainArcs.{plain_meaning, count_from, inner_arcs_at, arcs_at}
+use Rattle.mode_network.specs.{letter_at}
+use Rattle.plain_graph.specs.{plain_meaning, count_from, inner_arcs_at, arcs_at}
 use Rattle.plain_graph.proofs.PlaceTies.{past_roads_stand}
 use Rattle.plain_graph.proofs.plain.PlainGraph.fresh_ways.Goals as goal
 

@@ -1,11 +1,8 @@
-use Rattle.std.proofs.Common.{◌≡◌, ◌+◌, ◌-◌, [], refl, sym, ap, ◌∙◌, subst, arith}
-use Rattle.std.proofs.lemmas.Bool.{not-false}
-use Rattle.search_laws.specs.Fresh.{AreMoving}
-use Rattle.search_laws.specs.Ways.{moving_letters, ways_from}
+use Rattle.plan_base.proofs.Common.{◌≡◌, ◌+◌, ◌-◌, [], refl, sym, ap, ◌∙◌, subst, arith, not-false}
+use Rattle.search_laws.specs.{AreMoving, moving_letters, ways_from}
 use Rattle.search_laws.proofs.FreshLemmas.{adds_all, moving_asked}
-use Rattle.mode_network.specs.NetworkLists.{letter_at}
-use Rattle.plain_graph.specs.BoardWays.{plain_rides}
-use Rattle.plain_graph.specs.PlainArcs.{plain_meaning, count_from, inner_arcs_at, arcs_at}
+use Rattle.mode_network.specs.{letter_at}
+use Rattle.plain_graph.specs.{plain_rides, plain_meaning, count_from, inner_arcs_at, arcs_at}
 use Rattle.plain_graph.proofs.PlaceTies.{past_roads_stand}
 use Rattle.plain_graph.proofs.plain.PlainGraph.may_have_fresh.Goals as goal
 

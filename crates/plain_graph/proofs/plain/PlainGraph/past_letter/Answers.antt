@@ -1,4 +1,4 @@
-use Rattle.std.proofs.Common.{arith}
+use Rattle.plan_base.proofs.Common.{arith}
 use Rattle.timetable_arcs.proofs.TableLemmas.{rides_few}
 use Rattle.plain_graph.proofs.plain.PlainGraph.past_letter.Goals as goal
 

@@ -1,6 +1,5 @@
-use Rattle.std.proofs.Common.{◌∙◌, ap, sym, arith}
-use Rattle.plain_graph.specs.declared.plain.PlainArc.{PlainArc}
-use Rattle.plain_graph.specs.PlainArcs.{graph_arc}
+use Rattle.plan_base.proofs.Common.{◌∙◌, ap, sym, arith}
+use Rattle.plain_graph.specs.{PlainArc, graph_arc}
 use Rattle.plain_graph.proofs.PlaceTies.{legs_count, road_at, road_leg}
 use Rattle.plain_graph.proofs.plain.PlainGraph.steady.Goals as goal
 

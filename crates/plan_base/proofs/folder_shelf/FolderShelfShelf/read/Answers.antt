@@ -1,4 +1,4 @@
-use Rattle.std.proofs.Common.{◌+◌}
+use Rattle.plan_base.proofs.Common.{◌+◌}
 use Rattle.plan_base.proofs.DiskLemmas.{passed_on, rest_behind, rest_of_path}
 use Rattle.plan_base.proofs.folder_shelf.FolderShelfShelf.read.Goals as goal
 

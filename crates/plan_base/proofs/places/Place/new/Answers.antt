@@ -1,4 +1,4 @@
-use Rattle.std.proofs.lemmas.Int.{to_z-of_z}
+use Rattle.plan_base.proofs.Common.{to_z-of_z}
 use Rattle.plan_base.proofs.PlaceAgain.{place_is}
 use Rattle.plan_base.proofs.places.Place.new.Goals as goal
 

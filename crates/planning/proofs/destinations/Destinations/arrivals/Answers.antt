@@ -1,17 +1,11 @@
-use Rattle.std.proofs.Common.{◌∙◌, ◌<◌, List, ℕ, sym, ap, subst}
-use Rattle.std.specs.Prelude.{All}
-use Rattle.std.proofs.lemmas.Result.{IfOk-weaker}
-use Rattle.automaton.specs.Collapsed.{collapsed}
-use Rattle.automaton.specs.Meanings.{position_meaning}
-use Rattle.mode_expression.specs.Form.{form_of}
-use Rattle.phase_graph.specs.InUse.{starts_in}
-use Rattle.phase_graph.specs.InUseGraph.{meaning_in_use}
-use Rattle.product_search.specs.Arrivals.{AreArrivals}
-use Rattle.planning.specs.Arrivals.{AreArrivalsTo}
-use Rattle.planning.specs.Destinations.{hierarchy_searched}
-use Rattle.planning.proofs.PlanLemmas.{starts_low}
+use Rattle.plan_base.proofs.Common.{◌∙◌, ◌<◌, List, ℕ, sym, ap, subst, All, IfOk-weaker}
+use Rattle.automaton.specs.{collapsed, position_meaning}
+use Rattle.mode_expression.specs.{form_of}
+use Rattle.phase_graph.specs.{starts_in, meaning_in_use}
+use Rattle.product_search.specs.{AreArrivals}
+use Rattle.planning.specs.{AreArrivalsTo, hierarchy_searched}
+use Rattle.planning.proofs.{PlanLemmas.starts_low, DestinationLemmas.all_arrivals, DestinationLemmas.parts_fit}
 use Rattle.kept_automata.proofs.TextLemmas.{query_spells}
-use Rattle.planning.proofs.DestinationLemmas.{all_arrivals, parts_fit}
 use Rattle.planning.proofs.destinations.Destinations.arrivals.Goals as goal
 
 pub take-requires-clause-spelled : goal.take-requires-clause-spelled

@@ -1,9 +1,7 @@
-use Rattle.std.proofs.Common.{Bor, List, ℕ, length, sym, subst}
-use Rattle.std.specs.Prelude.{option_map}
+use Rattle.plan_base.proofs.Common.{Bor, List, ℕ, length, sym, subst, option_map}
 use Rattle.hierarchy.specs.declared.hierarchy.Hierarchy.{Hierarchy}
-use Rattle.phase_graph.specs.InUse.{IsInUse}
-use Rattle.phase_graph.specs.InUseGraph.{meaning_in_use}
-use Rattle.planning.specs.Destinations.{ArePartsFor}
+use Rattle.phase_graph.specs.{IsInUse, meaning_in_use}
+use Rattle.planning.specs.{ArePartsFor}
 use Rattle.planning.proofs.destinations.Destinations.new.Goals as goal
 
 pub returns-clause-ready : goal.returns-clause-ready

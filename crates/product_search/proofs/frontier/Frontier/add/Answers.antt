@@ -1,11 +1,5 @@
-use Rattle.std.proofs.Common.{◌≡◌, ◌+◌, length, slice_index, refl, sym, ◌∙◌, ap, arith, ◌++◌, ◌∷◌, []}
-use Rattle.std.specs.Prelude.{slice_index}
-use Rattle.std.specs.Vec.{with_item}
-use Rattle.std.proofs.lemmas.List.{length_push, get_or-set_same, get_or-set_other}
-use Rattle.std.proofs.lemmas.Result.{on_ok_weaker}
-use Rattle.product_search.specs.declared.row.Row.{Row}
-use Rattle.product_search.specs.declared.frontier.Frontier.{Frontier}
-use Rattle.product_search.specs.inside.Waiting.{rows, ways, IsIndexed}
+use Rattle.plan_base.proofs.Common.{◌≡◌, ◌+◌, length, slice_index, refl, sym, ◌∙◌, ap, arith, ◌++◌, ◌∷◌, [], with_item, length_push, get_or-set_same, get_or-set_other, on_ok_weaker}
+use Rattle.product_search.specs.{declared.row.Row.Row, declared.frontier.Frontier.Frontier, inside.rows, inside.ways, inside.IsIndexed}
 use Rattle.product_search.proofs.FrontierLemmas.{TakesWay, Changes, changes_push, indexed_push, offers_taken, reached_taken, right_taken}
 use Rattle.product_search.proofs.frontier.Frontier.add.Goals as goal
 

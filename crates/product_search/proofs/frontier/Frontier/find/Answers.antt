@@ -1,5 +1,5 @@
-use Rattle.std.proofs.Common.{◌∙◌, ap, slice_index, arith}
-use Rattle.product_search.specs.inside.Waiting.{rows}
+use Rattle.plan_base.proofs.Common.{◌∙◌, ap, slice_index, arith}
+use Rattle.product_search.specs.inside.{rows}
 use Rattle.product_search.proofs.FrontierLemmas.{sought_first, sought_found, sought_next, sought_smaller, sought_within}
 use Rattle.product_search.proofs.frontier.Frontier.find.Goals as goal
 

@@ -1,4 +1,4 @@
-use Rattle.product_search.specs.inside.Waiting.{rows}
+use Rattle.product_search.specs.inside.{rows}
 use Rattle.product_search.proofs.FrontierLemmas.{IsSought}
 use Rattle.product_search.proofs.frontier.Frontier.find.Given as goal
 

@@ -1,12 +1,5 @@
-use Rattle.std.proofs.Common.{◌≡◌, ◌<◌, length, refl, sym, ◌∙◌, ap, arith, ◌++◌, ◌∷◌, []}
-use Rattle.std.specs.Prelude.{Some, slice_get}
-use Rattle.std.specs.Vec.{with_item}
-use Rattle.std.proofs.lemmas.List.{length-set}
-use Rattle.std.proofs.lemmas.Option.{slice_get_read, slice_get_within}
-use Rattle.std.proofs.lemmas.Result.{on_ok_weaker}
-use Rattle.product_search.specs.declared.row.Row.{Row}
-use Rattle.product_search.specs.declared.frontier.Frontier.{Frontier}
-use Rattle.product_search.specs.inside.Waiting.{rows, ways}
+use Rattle.plan_base.proofs.Common.{◌≡◌, ◌<◌, length, refl, sym, ◌∙◌, ap, arith, ◌++◌, ◌∷◌, [], Some, slice_get, with_item, length-set, slice_get_read, slice_get_within, on_ok_weaker}
+use Rattle.product_search.specs.{declared.row.Row.Row, declared.frontier.Frontier.Frontier, inside.rows, inside.ways}
 use Rattle.product_search.proofs.FrontierLemmas.{TakesWay, Changes, changes_set, indexed_set, offers_taken, reached_taken, right_taken, same_element}
 use Rattle.product_search.proofs.frontier.Frontier.improve.Goals as goal
 

@@ -1,11 +1,7 @@
-use Rattle.std.proofs.Common.{sym, subst, arith}
-use Rattle.std.proofs.lemmas.Grind.{common_steps}
-use Rattle.std.proofs.lemmas.Option.{IfSome_then}
-use Rattle.product_search.specs.declared.frontier.Frontier.{Frontier}
-use Rattle.product_search.specs.inside.Waiting.{IsReady, Rearranges}
-use Rattle.product_search.proofs.FrontierLemmas.{rearranged_none, given_item, given_none}
+use Rattle.plan_base.proofs.Common.{sym, subst, arith, common_steps, IfSome_then}
+use Rattle.product_search.specs.{declared.frontier.Frontier.Frontier, inside.IsReady, inside.Rearranges}
+use Rattle.product_search.proofs.{FrontierLemmas.rearranged_none, FrontierLemmas.given_item, FrontierLemmas.given_none, frontier.Frontier.next_item.Goals.then-is_spent+in_ok-next_lot, frontier.Frontier.next_item.Goals.else-is_spent}
 use Rattle.product_search.proofs.frontier.Frontier.next_item.Goals as goal
-use Rattle.product_search.proofs.frontier.Frontier.next_item.Goals.{then-is_spent+in_ok-next_lot, else-is_spent}
 
 ready : (c : goal.After-pop) → Rearranges c.args.self.now c.if-is_spent.self × IsReady c.if-is_spent.self
 ready c =

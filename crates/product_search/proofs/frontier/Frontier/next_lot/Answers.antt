@@ -1,4 +1,4 @@
-use Rattle.std.proofs.lemmas.Result.{on_ok_weaker}
+use Rattle.plan_base.proofs.Common.{on_ok_weaker}
 use Rattle.product_search.proofs.FrontierLemmas.{rearranged, turned, turned_ready}
 use Rattle.product_search.proofs.frontier.Frontier.next_lot.Goals as goal
 

@@ -1,9 +1,5 @@
-use Rattle.std.proofs.Common.{◌≡◌, ◌∙◌, ℕ, ◌<◌, List, Some, get_or, length, refl, subst, ap, arith}
-use Rattle.std.specs.Prelude.{slice_get}
-use Rattle.std.proofs.lemmas.Option.{slice_get_read, slice_get_within}
-use Rattle.std.proofs.lemmas.Result.{on_ok_weaker}
-use Rattle.product_search.specs.declared.row.Row.{Row}
-use Rattle.product_search.specs.inside.Waiting.{rows}
+use Rattle.plan_base.proofs.Common.{◌≡◌, ◌∙◌, ℕ, ◌<◌, List, Some, get_or, length, refl, subst, ap, arith, slice_get, slice_get_read, slice_get_within, on_ok_weaker}
+use Rattle.product_search.specs.{declared.row.Row.Row, inside.rows}
 use Rattle.product_search.proofs.FrontierLemmas.{put_again, stale_left, same_element}
 use Rattle.product_search.proofs.frontier.Frontier.put_again.Goals as goal
 

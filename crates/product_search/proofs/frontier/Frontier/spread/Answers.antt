@@ -1,6 +1,4 @@
-use Rattle.std.proofs.Common.{◌∙◌, ◌++◌, ap, arith}
-use Rattle.std.proofs.lemmas.Grind.{common_steps}
-use Rattle.std.specs.Option.{option_to_list}
+use Rattle.plan_base.proofs.Common.{◌∙◌, ◌++◌, ap, arith, common_steps, option_to_list}
 use Rattle.product_search.proofs.FrontierLemmas.{spread_begins, spread_on, spread_ends}
 use Rattle.product_search.proofs.frontier.Frontier.spread.Goals as goal
 

@@ -1,4 +1,4 @@
-use Rattle.std.proofs.Common.{length}
+use Rattle.plan_base.proofs.Common.{length}
 use Rattle.product_search.proofs.FrontierLemmas.{HasSpread}
 use Rattle.product_search.proofs.frontier.Frontier.spread.Given as goal
 

@@ -1,4 +1,4 @@
-use Rattle.product_search.specs.inside.Queued.{queue_len}
+use Rattle.product_search.specs.inside.{queue_len}
 use Rattle.product_search.proofs.FrontierLemmas.{HasDropped}
 use Rattle.product_search.proofs.frontier.Frontier.take.Given as goal
 

@@ -1,6 +1,5 @@
-use Rattle.std.proofs.Common.{◌∙◌, [], sym, subst, arith}
-use Rattle.std.proofs.lemmas.List.{get_or_default}
-use Rattle.product_search.specs.inside.MoveTables.{AreMoves, AreTargets}
+use Rattle.plan_base.proofs.Common.{◌∙◌, [], sym, subst, arith, get_or_default}
+use Rattle.product_search.specs.inside.{AreMoves, AreTargets}
 use Rattle.product_search.proofs.MoveLemmas.{targets_are}
 use Rattle.product_search.proofs.machine.Machine.targets_of.Goals as goal
 

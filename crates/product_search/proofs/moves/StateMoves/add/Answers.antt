@@ -1,9 +1,7 @@
-use Rattle.std.proofs.Common.{◌∙◌, subst}
-use Rattle.search_laws.specs.Letters.{letter_count}
-use Rattle.search_laws.specs.declared.labels.Move.{Move}
-use Rattle.product_search.specs.inside.MoveTables.{AreTargetsWith}
-use Rattle.product_search.proofs.LetterLemmas.{letters_more, leaving_more}
-use Rattle.product_search.proofs.MoveLemmas.{targets_with}
+use Rattle.plan_base.proofs.Common.{◌∙◌, subst}
+use Rattle.search_laws.specs.{letter_count, Move}
+use Rattle.product_search.specs.inside.{AreTargetsWith}
+use Rattle.product_search.proofs.{LetterLemmas.letters_more, LetterLemmas.leaving_more, MoveLemmas.targets_with}
 use Rattle.product_search.proofs.moves.StateMoves.add.Goals as goal
 
 pub returns : goal.returns

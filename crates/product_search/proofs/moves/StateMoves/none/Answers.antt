@@ -1,4 +1,4 @@
-use Rattle.std.proofs.Common.{◌∷◌, [], length-append, arith}
+use Rattle.plan_base.proofs.Common.{◌∷◌, [], length-append, arith}
 use Rattle.product_search.proofs.MoveLemmas.{still_none}
 use Rattle.product_search.proofs.moves.StateMoves.none.Goals as goal
 

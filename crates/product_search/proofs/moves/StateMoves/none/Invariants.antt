@@ -1,5 +1,4 @@
-use Rattle.std.proofs.Common.{◌≡◌, ℕ, [], length}
-use Rattle.std.specs.Prelude.{slice_index_or}
+use Rattle.plan_base.proofs.Common.{◌≡◌, ℕ, [], length, slice_index_or}
 use Rattle.product_search.proofs.moves.StateMoves.none.Given as goal
 
 abbrev pub invariant-loop-letter : goal.invariant-loop-letter

@@ -1,9 +1,7 @@
-use Rattle.std.proofs.Common.{◌∙◌, sym, subst, arith}
-use Rattle.std.proofs.lemmas.Grind.{common_steps}
+use Rattle.plan_base.proofs.Common.{◌∙◌, sym, subst, arith, common_steps}
 use Rattle.product_search.specs.inside.Queued.{Queued}
-use Rattle.product_search.proofs.QueueLemmas.{none_queued, none_begins, all_passed, moved_on}
+use Rattle.product_search.proofs.{QueueLemmas.none_queued, QueueLemmas.none_begins, QueueLemmas.all_passed, QueueLemmas.moved_on, queue.Queue.find_bucket.Goals.then-self-len-via-then-self-len, queue.Queue.find_bucket.Goals.then-self-len-via-else-self-len+then-is_empty}
 use Rattle.product_search.proofs.queue.Queue.find_bucket.Goals as goal
-use Rattle.product_search.proofs.queue.Queue.find_bucket.Goals.{then-self-len-via-then-self-len, then-self-len-via-else-self-len+then-is_empty}
 
 pub returns-then-self-len-clause-none : goal.returns-then-self-len-clause-none
 returns-then-self-len-clause-none c past = elim c.then-self-len.branch [

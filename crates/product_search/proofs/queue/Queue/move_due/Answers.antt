@@ -1,5 +1,4 @@
-use Rattle.std.proofs.Common.{◌≡◌, ◌∙◌, ◌<◌, sym, subst, arith, length, swap_remove}
-use Rattle.std.proofs.lemmas.List.{get_or_default}
+use Rattle.plan_base.proofs.Common.{◌≡◌, ◌∙◌, ◌<◌, sym, subst, arith, length, swap_remove, get_or_default}
 use Rattle.product_search.proofs.QueueLemmas.{due}
 use Rattle.product_search.proofs.queue.Queue.move_due.Goals as goal
 

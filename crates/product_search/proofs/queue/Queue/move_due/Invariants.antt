@@ -1,6 +1,5 @@
-use Rattle.std.proofs.Common.{◌≡◌, ◌-◌, vec_len}
-use Rattle.std.specs.List.{AllWithin}
-use Rattle.product_search.specs.inside.Queued.{AreBuckets, IsPast, Moves}
+use Rattle.plan_base.proofs.Common.{◌≡◌, ◌-◌, vec_len, AllWithin}
+use Rattle.product_search.specs.inside.{AreBuckets, IsPast, Moves}
 use Rattle.product_search.proofs.queue.Queue.move_due.Given as goal
 
 abbrev pub invariant-due : goal.invariant-due

@@ -1,5 +1,4 @@
-use Rattle.std.proofs.Common.{◌∙◌, ap, Vec}
-use Rattle.std.specs.declared.alloc.Global.{Global}
+use Rattle.plan_base.proofs.Common.{◌∙◌, ap, Vec, Global}
 use Rattle.product_search.specs.declared.queue.Item.{Item}
 use Rattle.product_search.proofs.QueueLemmas.{narrowed}
 use Rattle.product_search.proofs.queue.Queue.narrow.Goals as goal

@@ -1,10 +1,8 @@
-use Rattle.std.proofs.Common.{◌<◌, ◌∙◌, ap, sym, subst, set, length, IsPermutation, arith}
+use Rattle.plan_base.proofs.Common.{◌<◌, ◌∙◌, ap, sym, subst, set, length, IsPermutation, arith, get_or_default}
 use Rattle.std.proofs.lemmas.List.Sorted.{IsPermutation-reverse}
-use Rattle.std.proofs.lemmas.List.{get_or_default}
 use Rattle.product_search.specs.declared.queue.Queue.{Queue}
-use Rattle.product_search.proofs.QueueLemmas.{counted, taken, taken_round, not_taken}
+use Rattle.product_search.proofs.{QueueLemmas.counted, QueueLemmas.taken, QueueLemmas.taken_round, QueueLemmas.not_taken, queue.Queue.next_lot.Goals.else-self-len-via-then-self-len+else-floor-until, queue.Queue.next_lot.Goals.else-self-len-via-else-self-len}
 use Rattle.product_search.proofs.queue.Queue.next_lot.Goals as goal
-use Rattle.product_search.proofs.queue.Queue.next_lot.Goals.{else-self-len-via-then-self-len+else-floor-until, else-self-len-via-else-self-len}
 
 pub returns-then-floor-until : goal.returns-then-floor-until
 returns-then-floor-until c =

@@ -1,4 +1,4 @@
-use Rattle.std.proofs.Common.{◌∙◌, sym, subst, map, Contains}
+use Rattle.plan_base.proofs.Common.{◌∙◌, sym, subst, map, Contains}
 use Rattle.product_search.specs.declared.queue.LateItem.{LateItem}
 use Rattle.product_search.proofs.QueueLemmas.{round_moves, round_begins}
 use Rattle.product_search.proofs.queue.Queue.next_round.Goals as goal

@@ -1,5 +1,5 @@
-use Rattle.std.proofs.Common.{◌^◌, arith}
-use Rattle.std.proofs.Math.Nat.{div-mul-le_self}
+use Rattle.plan_base.proofs.Common.{◌^◌, arith}
+use Rattle.std.proofs.Common.{div-mul-le_self}
 use Rattle.product_search.proofs.QueueLemmas.{begins}
 use Rattle.product_search.proofs.queue.Queue.place.Goals as goal
 

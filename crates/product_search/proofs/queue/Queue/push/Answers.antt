@@ -1,4 +1,4 @@
-use Rattle.std.proofs.Common.{arith}
+use Rattle.plan_base.proofs.Common.{arith}
 use Rattle.product_search.proofs.QueueLemmas.{taken_in, taken_later}
 use Rattle.product_search.proofs.queue.Queue.push.Goals as goal
 

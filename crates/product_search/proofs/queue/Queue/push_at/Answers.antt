@@ -1,5 +1,4 @@
-use Rattle.std.proofs.Common.{◌∙◌, ◌++◌, ◌∷◌, [], Vec, refl, ap, sym}
-use Rattle.std.specs.declared.alloc.Global.{Global}
+use Rattle.plan_base.proofs.Common.{◌∙◌, ◌++◌, ◌∷◌, [], Vec, refl, ap, sym, Global}
 use Rattle.product_search.specs.declared.queue.Item.{Item}
 use Rattle.product_search.proofs.QueueLemmas.{put, bucket-get_or}
 use Rattle.product_search.proofs.queue.Queue.push_at.Goals as goal

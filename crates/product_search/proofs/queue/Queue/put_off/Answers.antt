@@ -1,7 +1,5 @@
-use Rattle.std.proofs.Common.{◌∙◌, ap, sym, subst, length, refl, arith, ◌<◌, Vec}
-use Rattle.std.specs.declared.alloc.Global.{Global}
-use Rattle.product_search.specs.declared.queue.Item.{Item}
-use Rattle.product_search.specs.inside.Queued.{PutsLater}
+use Rattle.plan_base.proofs.Common.{◌∙◌, ap, sym, subst, length, refl, arith, ◌<◌, Vec, Global}
+use Rattle.product_search.specs.{declared.queue.Item.Item, inside.PutsLater}
 use Rattle.product_search.proofs.QueueLemmas.{bucket-get_or, puts_off, put_off_all}
 use Rattle.product_search.proofs.queue.Queue.put_off.Goals as goal
 

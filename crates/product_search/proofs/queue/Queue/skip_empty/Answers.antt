@@ -1,6 +1,4 @@
-use Rattle.std.proofs.Common.{◌≡◌, ◌<◌, ◌∙◌, ◌+◌, [], Vec, refl, sym, ap, arith, length}
-use Rattle.std.proofs.lemmas.Grind.{common_steps}
-use Rattle.std.specs.declared.alloc.Global.{Global}
+use Rattle.plan_base.proofs.Common.{◌≡◌, ◌<◌, ◌∙◌, ◌+◌, [], Vec, refl, sym, ap, arith, length, common_steps, Global}
 use Rattle.product_search.specs.declared.queue.Item.{Item}
 use Rattle.product_search.proofs.QueueLemmas.{passed_over, moved_on, bucket-get_or}
 use Rattle.product_search.proofs.queue.Queue.skip_empty.Goals as goal

@@ -1,5 +1,5 @@
-use Rattle.std.proofs.Common.{◌≡◌, ◌-◌, vec_len}
-use Rattle.product_search.specs.inside.Queued.{IsQueue, Moves}
+use Rattle.plan_base.proofs.Common.{◌≡◌, ◌-◌, vec_len}
+use Rattle.product_search.specs.inside.{IsQueue, Moves}
 use Rattle.product_search.proofs.queue.Queue.skip_empty.Given as goal
 
 abbrev pub invariant-empty : goal.invariant-empty

@@ -1,7 +1,5 @@
-use Rattle.std.proofs.Common.{◌≡◌, ℕ, ◌-◌, ◌<◌, ◌∙◌, length, set, Option, Some, None, ap, sym, subst, arith}
-use Rattle.std.specs.Prelude.{slice_index_or}
-use Rattle.std.proofs.lemmas.List.{get_or_default}
-use Rattle.product_search.specs.inside.Noting.{IsNoted, earlier}
+use Rattle.plan_base.proofs.Common.{◌≡◌, ℕ, ◌-◌, ◌<◌, ◌∙◌, length, set, Option, Some, None, ap, sym, subst, arith, slice_index_or, get_or_default}
+use Rattle.product_search.specs.inside.{IsNoted, earlier}
 use Rattle.product_search.proofs.NotingLemmas.{noted_at}
 use Rattle.product_search.proofs.targets.Noted.note.Goals as goal
 

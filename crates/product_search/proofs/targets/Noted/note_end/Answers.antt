@@ -1,9 +1,7 @@
-use Rattle.std.proofs.Common.{sym, subst}
-use Rattle.product_search.specs.declared.targets.Noted.{Noted}
-use Rattle.product_search.specs.inside.Noting.{AreReached}
-use Rattle.product_search.proofs.NotingLemmas.{reached_stays}
+use Rattle.plan_base.proofs.Common.{sym, subst}
+use Rattle.product_search.specs.{declared.targets.Noted.Noted, inside.AreReached}
+use Rattle.product_search.proofs.{NotingLemmas.reached_stays, targets.Noted.note_end.Goals.then-accepts, targets.Noted.note_end.Goals.else-accepts}
 use Rattle.product_search.proofs.targets.Noted.note_end.Goals as goal
-use Rattle.product_search.proofs.targets.Noted.note_end.Goals.{then-accepts, else-accepts}
 
 pub pass-requires : goal.pass-requires
 pass-requires g c =

@@ -1,7 +1,5 @@
-use Rattle.std.proofs.Common.{◌≡◌, ◌<◌, ◌∙◌, length, ap, sym, arith}
-use Rattle.std.specs.Prelude.{slice_index}
-use Rattle.std.proofs.lemmas.List.{get_or_default}
-use Rattle.product_search.specs.inside.Noting.{time_of}
+use Rattle.plan_base.proofs.Common.{◌≡◌, ◌<◌, ◌∙◌, length, ap, sym, arith, slice_index, get_or_default}
+use Rattle.product_search.specs.inside.{time_of}
 use Rattle.product_search.proofs.NotingLemmas.{reached_more}
 use Rattle.product_search.proofs.targets.Noted.pass.Goals as goal
 

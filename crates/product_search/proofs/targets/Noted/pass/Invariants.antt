@@ -1,5 +1,5 @@
-use Rattle.std.proofs.Common.{◌≡◌, ◌-◌, vec_len}
-use Rattle.product_search.specs.inside.Noting.{AreReached}
+use Rattle.plan_base.proofs.Common.{◌≡◌, ◌-◌, vec_len}
+use Rattle.product_search.specs.inside.{AreReached}
 use Rattle.product_search.proofs.targets.Noted.pass.Given as goal
 
 abbrev pub invariant-pass : goal.invariant-pass

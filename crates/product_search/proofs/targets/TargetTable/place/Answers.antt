@@ -1,4 +1,4 @@
-use Rattle.std.proofs.Common.{arith}
+use Rattle.plan_base.proofs.Common.{arith}
 use Rattle.product_search.proofs.NotingLemmas.{place_within}
 use Rattle.product_search.proofs.targets.TargetTable.place.Goals as goal
 

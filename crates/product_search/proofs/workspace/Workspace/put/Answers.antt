@@ -1,4 +1,4 @@
-use Rattle.std.proofs.Common.{arith}
+use Rattle.plan_base.proofs.Common.{arith}
 use Rattle.product_search.proofs.workspace.Workspace.put.Goals as goal
 
 pub cleared-first-requires : goal.cleared-first-requires

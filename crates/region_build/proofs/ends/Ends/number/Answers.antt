@@ -1,8 +1,7 @@
-use Rattle.std.proofs.Common.{ℤ, ◌∙◌, ap}
-use Rattle.std.specs.Prelude.{position}
-use Rattle.std.proofs.Math.Facts.{to_z-of_z}
-use Rattle.plan_base.specs.Modes.{number_of_mode}
-use Rattle.region_build.specs.Ends.{number_of_end}
+use Rattle.plan_base.proofs.Common.{ℤ, ◌∙◌, ap, position}
+use Rattle.std.proofs.Common.{to_z-of_z}
+use Rattle.plan_base.specs.{number_of_mode}
+use Rattle.region_build.specs.{number_of_end}
 use Rattle.region_build.proofs.KeyLaws.{number_by_key, same_end_key}
 use Rattle.region_build.proofs.ends.Ends.number.Goals as goal
 

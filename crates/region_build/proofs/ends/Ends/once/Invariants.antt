@@ -1,5 +1,5 @@
-use Rattle.std.proofs.Common.{◌≡◌, [], drop, map}
-use Rattle.region_build.specs.Ends.{key_of_end, once_behind}
+use Rattle.plan_base.proofs.Common.{◌≡◌, [], drop, map}
+use Rattle.region_build.specs.{key_of_end, once_behind}
 use Rattle.region_build.proofs.ends.Ends.once.Given as goal
 
 abbrev pub invariant-loop-end : goal.invariant-loop-end

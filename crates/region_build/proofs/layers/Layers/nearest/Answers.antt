@@ -1,5 +1,5 @@
-use Rattle.std.proofs.Common.{sym, ap, ◌∙◌}
-use Rattle.region_build.specs.inside.Layers.{nearest_of}
+use Rattle.plan_base.proofs.Common.{sym, ap, ◌∙◌}
+use Rattle.region_build.specs.inside.{nearest_of}
 use Rattle.region_build.proofs.LayerLaws.{nearest_of_is}
 use Rattle.region_build.proofs.layers.Layers.nearest.Goals as goal
 

@@ -1,5 +1,5 @@
-use Rattle.std.proofs.Common.{arith}
-use Rattle.region_build.specs.Sources.{lists_of}
+use Rattle.plan_base.proofs.Common.{arith}
+use Rattle.region_build.specs.{lists_of}
 use Rattle.region_build.proofs.TallyLaws.{left_more}
 use Rattle.region_build.proofs.left.LeftOut.with.Goals as goal
 

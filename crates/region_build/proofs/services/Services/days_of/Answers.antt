@@ -1,9 +1,6 @@
-use Rattle.std.proofs.Common.{sym}
-use Rattle.std.specs.Prelude.{⊤}
-use Rattle.std.proofs.lemmas.Map.Text.{hash_map_updates_str}
+use Rattle.plan_base.proofs.Common.{sym, ⊤, hash_map_updates_str}
 use Rattle.std.proofs.lemmas.Option.{MatchOption-at_some}
-use Rattle.region_build.specs.inside.ByService.{at, listed}
-use Rattle.region_build.specs.Services.{AreDaysBy}
+use Rattle.region_build.specs.{inside.at, inside.listed, AreDaysBy}
 use Rattle.region_build.proofs.ServiceLaws.{known_more}
 use Rattle.region_build.proofs.services.Services.days_of.Goals as goal
 

@@ -1,7 +1,6 @@
-use Rattle.std.proofs.Common.{arith, ◌∙◌}
-use Rattle.region_build.specs.Sources.{lists_of}
-use Rattle.region_build.proofs.LeavingLaws.{late_counted}
-use Rattle.region_build.proofs.TallyLaws.{tally_more}
+use Rattle.plan_base.proofs.Common.{arith, ◌∙◌}
+use Rattle.region_build.specs.{lists_of}
+use Rattle.region_build.proofs.{LeavingLaws.late_counted, TallyLaws.tally_more}
 use Rattle.region_build.proofs.tallies.Tally.with.Goals as goal
 
 pub with-requires : goal.with-requires

@@ -1,5 +1,4 @@
-use Rattle.std.proofs.Common.{◌++◌}
-use Rattle.std.proofs.lemmas.Result.{err_from_is_err_and}
+use Rattle.plan_base.proofs.Common.{◌++◌, err_from_is_err_and}
 use Rattle.run_steps.proofs.TurnLemmas.{whole_fails}
 use Rattle.run_steps.proofs.in_turn.Turn.answer_end.Goals as goal
 

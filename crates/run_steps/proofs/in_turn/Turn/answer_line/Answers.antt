@@ -1,6 +1,5 @@
-use Rattle.std.proofs.Common.{◌∙◌, ap, sym}
-use Rattle.std.proofs.lemmas.Result.{err_from_is_err_and}
-use Rattle.run_steps.specs.QueryLines.{as_query}
+use Rattle.plan_base.proofs.Common.{◌∙◌, ap, sym, err_from_is_err_and}
+use Rattle.run_steps.specs.{as_query}
 use Rattle.run_steps.proofs.TurnLemmas.{block_fails}
 use Rattle.run_steps.proofs.in_turn.Turn.answer_line.Goals as goal
 

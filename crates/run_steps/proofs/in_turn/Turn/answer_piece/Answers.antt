@@ -1,9 +1,7 @@
-use Rattle.std.proofs.Common.{◌≡◌, ℕ, ◌+◌, ◌∙◌, List, ◌∷◌, ◌++◌, append_assoc, ap, sym, subst, arith}
-use Rattle.std.proofs.lemmas.List.Elements.{All-nil}
-use Rattle.std.proofs.lemmas.Result.{err_from_is_err_and, IfErr-weaker}
-use Rattle.run_steps.specs.inside.TurnCauses.{AreAnswered, IsBegun}
-use Rattle.run_steps.proofs.LineLemmas.{line_join}
-use Rattle.run_steps.proofs.TurnLemmas.{answered_twice, keep_fails, line_answered, line_fails, none_answered, piece_fails}
+use Rattle.plan_base.proofs.Common.{◌≡◌, ℕ, ◌+◌, ◌∙◌, List, ◌∷◌, ◌++◌, append_assoc, ap, sym, subst, arith, All-nil, err_from_is_err_and}
+use Rattle.std.proofs.lemmas.Result.{IfErr-weaker}
+use Rattle.run_steps.specs.inside.{AreAnswered, IsBegun}
+use Rattle.run_steps.proofs.{LineLemmas.line_join, TurnLemmas.answered_twice, TurnLemmas.keep_fails, TurnLemmas.line_answered, TurnLemmas.line_fails, TurnLemmas.none_answered, TurnLemmas.piece_fails}
 use Rattle.run_steps.proofs.in_turn.Turn.answer_piece.Goals as goal
 
 -- a line that began in what was kept

@@ -1,5 +1,5 @@
-use Rattle.std.proofs.Common.{◌≡◌, ℕ, ◌+◌, ◌*◌, ◌^◌, ◌≤◌, ◌++◌, length}
-use Rattle.run_steps.specs.inside.TurnCauses.{AreAnswered, IsBegun}
+use Rattle.plan_base.proofs.Common.{◌≡◌, ℕ, ◌+◌, ◌*◌, ◌^◌, ◌≤◌, ◌++◌, length}
+use Rattle.run_steps.specs.inside.{AreAnswered, IsBegun}
 use Rattle.run_steps.proofs.in_turn.Turn.answer_piece.Given as goal
 
 -- the lines that ended in what was taken off the piece are answered

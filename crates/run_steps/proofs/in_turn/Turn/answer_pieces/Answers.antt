@@ -1,6 +1,5 @@
-use Rattle.std.proofs.Common.{ℕ, ◌+◌, ◌≤◌, ◌++◌, length, take, length-take-le, sym, subst, arith, rules}
-use Rattle.run_steps.specs.Scene.{scene}
-use Rattle.run_steps.specs.inside.TurnCauses.{AreAnswered, IsPieceOutcome}
+use Rattle.plan_base.proofs.Common.{ℕ, ◌+◌, ◌≤◌, ◌++◌, length, take, length-take-le, sym, subst, arith, rules}
+use Rattle.run_steps.specs.{scene, inside.AreAnswered, inside.IsPieceOutcome}
 use Rattle.run_steps.proofs.PieceLemmas.{IsGoingOn, going_on, going_stops}
 use Rattle.run_steps.proofs.in_turn.Turn.answer_pieces.Goals as goal
 

@@ -1,5 +1,5 @@
-use Rattle.std.proofs.Common.{◌+◌, ◌-◌, ◌*◌, ◌^◌, ◌≤◌}
-use Rattle.run_steps.specs.Scene.{scene}
+use Rattle.plan_base.proofs.Common.{◌+◌, ◌-◌, ◌*◌, ◌^◌, ◌≤◌}
+use Rattle.run_steps.specs.{scene}
 use Rattle.run_steps.proofs.PieceLemmas.{IsGoingOn}
 use Rattle.run_steps.proofs.in_turn.Turn.answer_pieces.Given as goal
 

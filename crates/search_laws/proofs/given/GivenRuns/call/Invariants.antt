@@ -1,5 +1,5 @@
-use Rattle.std.specs.Prelude.{IfSome}
-use Rattle.search_laws.specs.Fresh.{KnowsBy}
+use Rattle.plan_base.proofs.Common.{IfSome}
+use Rattle.search_laws.specs.{KnowsBy}
 use Rattle.search_laws.proofs.given.GivenRuns.call.Given as goal
 
 abbrev pub invariant-loop-i : goal.invariant-loop-i

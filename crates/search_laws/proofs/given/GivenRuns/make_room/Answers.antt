@@ -1,5 +1,4 @@
-use Rattle.std.proofs.Common.{Some, inl, inr, subst}
-use Rattle.std.specs.Prelude.{Contains}
+use Rattle.plan_base.proofs.Common.{Some, inl, inr, subst, Contains}
 use Rattle.search_laws.proofs.given.GivenRuns.make_room.Goals as goal
 
 pub returns-in_ok-cells : goal.returns-in_ok-cells

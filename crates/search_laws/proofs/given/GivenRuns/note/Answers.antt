@@ -1,4 +1,4 @@
-use Rattle.std.proofs.Common.{inl, inr}
+use Rattle.plan_base.proofs.Common.{inl, inr}
 use Rattle.search_laws.proofs.given.GivenRuns.note.Goals as goal
 
 pub returns : goal.returns

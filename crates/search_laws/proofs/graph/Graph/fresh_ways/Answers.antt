@@ -1,7 +1,6 @@
-use Rattle.std.proofs.Common.{◌≡◌, ◌-◌, ◌++◌, ◌∙◌, ap, arith}
-use Rattle.search_laws.specs.Ways.{ways_from, ways_past}
-use Rattle.search_laws.proofs.WayLemmas.{ways_pushed}
-use Rattle.search_laws.proofs.FreshLemmas.{adds_all, adds_moving}
+use Rattle.plan_base.proofs.Common.{◌≡◌, ◌-◌, ◌++◌, ◌∙◌, ap, arith}
+use Rattle.search_laws.specs.{ways_from, ways_past}
+use Rattle.search_laws.proofs.{WayLemmas.ways_pushed, FreshLemmas.adds_all, FreshLemmas.adds_moving}
 use Rattle.search_laws.proofs.graph.Graph.fresh_ways.Goals as goal
 
 pub loop-i-preserved : goal.loop-i-preserved

@@ -1,5 +1,5 @@
-use Rattle.std.proofs.Common.{◌≡◌, ◌-◌, ◌++◌}
-use Rattle.search_laws.specs.Ways.{ways_from}
+use Rattle.plan_base.proofs.Common.{◌≡◌, ◌-◌, ◌++◌}
+use Rattle.search_laws.specs.{ways_from}
 use Rattle.search_laws.proofs.graph.Graph.fresh_ways.Given as goal
 
 abbrev pub invariant-loop-i : goal.invariant-loop-i

@@ -1,10 +1,8 @@
-use Rattle.std.proofs.Common.{◌≡◌, ℕ, ◌+◌, Bool, ◌&&◌, ltb, subst, sym, ap, ◌∙◌}
-use Rattle.service_days.specs.Days.{date_of}
-use Rattle.service_days.specs.Services.{runs_on}
-use Rattle.plan_base.specs.DaySets.{contains_day}
-use Rattle.service_days.proofs.OneDayMore.{one_day_more, no_day_more}
+use Rattle.plan_base.proofs.Common.{◌≡◌, ℕ, ◌+◌, Bool, ◌&&◌, ltb, subst, sym, ap, ◌∙◌}
+use Rattle.service_days.specs.{date_of, runs_on}
+use Rattle.plan_base.specs.{contains_day}
+use Rattle.service_days.proofs.{OneDayMore.one_day_more, OneDayMore.no_day_more, region_days.Days.days_of.Goals.then-runs, region_days.Days.days_of.Goals.else-runs}
 use Rattle.service_days.proofs.region_days.Days.days_of.Goals as goal
-use Rattle.service_days.proofs.region_days.Days.days_of.Goals.{then-runs, else-runs}
 
 pub loop-day-preserved : goal.loop-day-preserved
 loop-day-preserved c other =

@@ -1,7 +1,6 @@
-use Rattle.std.proofs.Common.{◌≡◌, ℕ, ◌&&◌, nat_lt}
-use Rattle.plan_base.specs.DaySets.{contains_day}
-use Rattle.service_days.specs.Days.{date_of}
-use Rattle.service_days.specs.Services.{runs_on}
+use Rattle.plan_base.proofs.Common.{◌≡◌, ℕ, ◌&&◌, nat_lt}
+use Rattle.plan_base.specs.{contains_day}
+use Rattle.service_days.specs.{date_of, runs_on}
 use Rattle.service_days.proofs.region_days.Days.days_of.Given as goal
 
 -- the days so far on which the service runs

@@ -1,11 +1,6 @@
-use Rattle.std.proofs.Common.{◌≡◌, true, ◌+◌, ◌-◌, sym, ap, ap₂, subst, ◌∙◌, arith, length, take, map, Some, None, Ok}
-use Rattle.std.specs.List.{range_with_len}
-use Rattle.service_days.specs.DaysMeaning.{DaysMeaning}
-use Rattle.service_days.specs.Days.{IsDaysRefusal}
-use Rattle.service_days.specs.Noons.{CountFromNoons}
-use Rattle.service_days.specs.Zones.{AreKept, RefusesLengths, dates_and_next, days_with_bases, have_day_lengths, zone_base, zone_days, zone_of}
-use Rattle.service_days.proofs.PlainDays.{few_days}
-use Rattle.service_days.proofs.ZoneDays.{cond_some_is, count_from_noons, dates_civil, days_in_ok, days_in_refused, first_dates, length-dates_and_next, same_days, zone_are_kept, zone_days_is}
+use Rattle.plan_base.proofs.Common.{◌≡◌, true, ◌+◌, ◌-◌, sym, ap, ap₂, subst, ◌∙◌, arith, length, take, map, Some, None, Ok, range_with_len}
+use Rattle.service_days.specs.{DaysMeaning.DaysMeaning, IsDaysRefusal, CountFromNoons, AreKept, RefusesLengths, dates_and_next, days_with_bases, have_day_lengths, zone_base, zone_days, zone_of}
+use Rattle.service_days.proofs.{PlainDays.few_days, ZoneDays.cond_some_is, ZoneDays.count_from_noons, ZoneDays.dates_civil, ZoneDays.days_in_ok, ZoneDays.days_in_refused, ZoneDays.first_dates, ZoneDays.length-dates_and_next, ZoneDays.same_days, ZoneDays.zone_are_kept, ZoneDays.zone_days_is}
 use Rattle.service_days.proofs.region_days.Days.in_zone.Goals as goal
 
 pub returns-in-None-clause-err : goal.returns-in-None-clause-err

@@ -1,11 +1,6 @@
-use Rattle.std.proofs.Common.{◌≡◌, subst}
-use Rattle.std.specs.Prelude.{Ok, IfSome}
-use Rattle.service_days.specs.DaysMeaning.{DaysMeaning}
-use Rattle.service_days.specs.Days.{AreDays, AreRisingDays}
-use Rattle.service_days.specs.Noons.{CountFromNoons}
-use Rattle.service_days.specs.Zones.{days_made}
-use Rattle.service_days.proofs.InOrder.{are_in_order}
-use Rattle.service_days.proofs.ZoneDays.{made_from_noons}
+use Rattle.plan_base.proofs.Common.{◌≡◌, subst, Ok, IfSome}
+use Rattle.service_days.specs.{DaysMeaning.DaysMeaning, AreDays, AreRisingDays, CountFromNoons, days_made}
+use Rattle.service_days.proofs.{InOrder.are_in_order, ZoneDays.made_from_noons}
 use Rattle.service_days.proofs.region_days.Days.known.Goals as goal
 
 pub returns-clause-days : goal.returns-clause-days

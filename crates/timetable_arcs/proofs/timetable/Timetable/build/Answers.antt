@@ -1,11 +1,6 @@
-use Rattle.std.proofs.Common.{◌<◌, ◌^◌, ◌∙◌, sym, subst, length, arith, List, ℕ}
-use Rattle.timetable_arcs.specs.declared.trips.Instance.{Instance}
-use Rattle.timetable_arcs.specs.declared.rides.Ride.{Ride}
-use Rattle.timetable_arcs.specs.Trips.{TripLists}
-use Rattle.timetable_arcs.specs.Rides.{rides_at}
-use Rattle.timetable_arcs.specs.RideTables.{sorted_table}
-use Rattle.timetable_arcs.proofs.BuildLemmas.{built, same_rides, boards_in, places_in}
-use Rattle.timetable_arcs.proofs.TableLemmas.{patterns_few, pattern_stops, rides_few}
+use Rattle.plan_base.proofs.Common.{◌<◌, ◌^◌, ◌∙◌, sym, subst, length, arith, List, ℕ}
+use Rattle.timetable_arcs.specs.{Instance, Ride, TripLists, rides_at, sorted_table}
+use Rattle.timetable_arcs.proofs.{BuildLemmas.built, BuildLemmas.same_rides, BuildLemmas.boards_in, BuildLemmas.places_in, TableLemmas.patterns_few, TableLemmas.pattern_stops, TableLemmas.rides_few}
 use Rattle.timetable_arcs.proofs.timetable.Timetable.build.Goals as goal
 
 pub stop_boards-requires-clause-few : goal.stop_boards-requires-clause-few

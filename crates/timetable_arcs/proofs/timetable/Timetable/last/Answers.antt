@@ -1,9 +1,6 @@
-use Rattle.std.proofs.Common.{◌≡◌, ◌<◌, ◌∙◌, length, subst, sym, []}
-use Rattle.timetable_arcs.specs.inside.Fields.{lists_of}
-use Rattle.timetable_arcs.specs.Patterns.{TableLists, pattern_trip, last_run}
-use Rattle.timetable_arcs.specs.Runs.{IsLastRun}
-use Rattle.timetable_arcs.proofs.TableLemmas.{last_in_words}
-use Rattle.timetable_arcs.proofs.ReadLemmas.{read_at, last_read, arrives_rise_read}
+use Rattle.plan_base.proofs.Common.{◌≡◌, ◌<◌, ◌∙◌, length, subst, sym, []}
+use Rattle.timetable_arcs.specs.{inside.lists_of, TableLists, pattern_trip, last_run, IsLastRun}
+use Rattle.timetable_arcs.proofs.{TableLemmas.last_in_words, ReadLemmas.read_at, ReadLemmas.last_read, ReadLemmas.arrives_rise_read}
 use Rattle.timetable_arcs.proofs.timetable.Timetable.last.Goals as goal
 
 pub last_by-requires : goal.last_by-requires

@@ -1,4 +1,4 @@
-use Rattle.std.proofs.Common.{◌∙◌, sym}
+use Rattle.plan_base.proofs.Common.{◌∙◌, sym}
 use Rattle.timetable_arcs.proofs.TableLemmas.{next_in_words}
 use Rattle.timetable_arcs.proofs.timetable.Timetable.next.Goals as goal
 

@@ -1,9 +1,5 @@
-use Rattle.std.proofs.Common.{◌≡◌, ◌<◌, ◌∙◌, Some, length, subst, sym, [], arith}
-use Rattle.std.specs.Prelude.{slice_get}
-use Rattle.std.proofs.lemmas.Grind.{common_steps}
-use Rattle.std.proofs.lemmas.Option.{gets}
-use Rattle.timetable_arcs.specs.inside.Fields.{lists_of}
-use Rattle.timetable_arcs.specs.Patterns.{TableLists, pattern_trip, runs_of, next_run}
+use Rattle.plan_base.proofs.Common.{◌≡◌, ◌<◌, ◌∙◌, Some, length, subst, sym, [], arith, slice_get, common_steps, gets}
+use Rattle.timetable_arcs.specs.{inside.lists_of, TableLists, pattern_trip, runs_of, next_run}
 use Rattle.timetable_arcs.proofs.ReadLemmas.{read_at, next_read, departs_rise_read}
 use Rattle.timetable_arcs.proofs.timetable.Timetable.next_placed.Goals as goal
 

@@ -1,5 +1,5 @@
-use Rattle.std.proofs.Common.{arith}
-use Rattle.timetable_arcs.specs.inside.Fields.{lists_of}
+use Rattle.plan_base.proofs.Common.{arith}
+use Rattle.timetable_arcs.specs.inside.{lists_of}
 use Rattle.timetable_arcs.proofs.TableLemmas.{patterns_few}
 use Rattle.timetable_arcs.proofs.timetable.Timetable.patterns.Goals as goal
 

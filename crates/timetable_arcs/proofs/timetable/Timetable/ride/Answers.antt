@@ -1,13 +1,6 @@
-use Rattle.std.proofs.Common.{◌≡◌, ◌<◌, ◌-◌, ◌∙◌, ap, sym, subst, length, nat_le, [], ℕ, Some, get_or, rules, of_calls, arith}
-use Rattle.std.specs.Prelude.{slice_get}
-use Rattle.std.proofs.lemmas.Fn.{always_returns_same}
-use Rattle.timetable_arcs.specs.declared.rides.Board.{Board}
-use Rattle.timetable_arcs.specs.inside.Fields.{lists_of}
-use Rattle.timetable_arcs.specs.Patterns.{TableLists}
-use Rattle.timetable_arcs.specs.Rides.{rides_at}
-use Rattle.timetable_arcs.specs.RideTables.{rides_end}
-use Rattle.timetable_arcs.proofs.RideLemmas.{no_board, ride_to}
-use Rattle.timetable_arcs.proofs.ReadLemmas.{read_at, readable}
+use Rattle.plan_base.proofs.Common.{◌≡◌, ◌<◌, ◌-◌, ◌∙◌, ap, sym, subst, length, nat_le, [], ℕ, Some, get_or, rules, of_calls, arith, slice_get, always_returns_same}
+use Rattle.timetable_arcs.specs.{Board, TableLists, rides_at, rides_end, inside.lists_of}
+use Rattle.timetable_arcs.proofs.{RideLemmas.no_board, RideLemmas.ride_to, ReadLemmas.read_at, ReadLemmas.readable}
 use Rattle.timetable_arcs.proofs.timetable.Timetable.ride.Goals as goal
 
 pub overflow_sub-board : goal.overflow_sub-board
