@@ -11,6 +11,7 @@ use hierarchy::{Hierarchy, Lists, Sizes};
 use hierarchy_file::{decode, decode_lists, encode};
 use mode_network::Network;
 use std::alloc::{AllocError, Global};
+use sweeps::Sheet;
 use witness::{Edge, Workspace, find};
 
 /// `hierarchy TEXT NODES`: what a hierarchy says of the first so many nodes, and whether it is written as the same bytes; or the
@@ -71,6 +72,50 @@ fn print_pair(out: &mut Answer, h: &Hierarchy, u: u32, v: u32) {
     }
     if let Some(witness) = h.witness_for(1, u, v) {
         out.debug("\npast 1: ", witness.nodes);
+    }
+}
+
+/// `sweep TEXT ORIGIN LIMIT`: the nodes of a hierarchy's order, and the times of walking from one of them to each, in milliseconds,
+/// for which what is at the limit or later goes no further up.
+pub fn sweep(out: &mut Answer, script: &Script, words: &[u8]) {
+    let alloc = out.alloc();
+    if let Ok(h) = decode(alloc, script.text(parts::word(words, 0))) {
+        if let Ok(sheet) = order_sheet(alloc, &h) {
+            print_swept(out, sheet, parts::node(words, 1), parts::node(words, 2));
+        }
+    }
+}
+
+/// The sheet of all nodes of an order, if it has one.
+fn order_sheet(alloc: Global, h: &Hierarchy) -> Result<Option<Sheet>, AllocError> {
+    let nodes = Vec::from_slice(alloc, h.order())?;
+    Sheet::new(alloc, h, nodes)
+}
+
+fn print_swept(out: &mut Answer, sheet: Option<Sheet>, origin: u32, limit: u32) {
+    let Some(sheet) = sheet else {
+        return out.text("no sheet");
+    };
+    if let Ok(times) = swept(out.alloc(), &sheet, origin, limit) {
+        out.debug("", sheet.nodes());
+        out.debug(" in ", &times);
+    }
+}
+
+/// The times of walking from a node to each node of a sheet.
+fn swept(alloc: Global, sheet: &Sheet, origin: u32, limit: u32) -> Result<Vec<u32>, AllocError> {
+    let mut times = vec![in alloc; u32::MAX; sheet.nodes().len()]?;
+    begin_at(sheet.nodes(), origin, &mut times);
+    sheet.sweep(&mut times, limit);
+    Ok(times)
+}
+
+/// Makes the times at a node 0.
+fn begin_at(nodes: &[u32], origin: u32, times: &mut [u32]) {
+    for i in 0..times.len() {
+        if nodes.get(i) == Some(&origin) {
+            times[i] = 0;
+        }
     }
 }
 

@@ -1,0 +1,5 @@
+pub mod EntryLemmas
+pub mod LayerLemmas
+pub mod RowLemmas
+pub mod StepLemmas
+pub mod SweepLemmas

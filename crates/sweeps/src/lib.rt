@@ -1,0 +1,12 @@
+//! Times of walking over all of a road layer, by one sweep up the order in which it is contracted and one down.
+#![tactic(auto)]
+
+mod laws;
+mod places;
+pub mod rows;
+pub mod sheet;
+mod sweeping;
+
+pub use laws::sheets_are_whole;
+pub use rows::Rows;
+pub use sheet::Sheet;

@@ -1,0 +1,62 @@
+//! A road layer that is contracted whole.
+
+ghost use Rattle.std.specs.Prelude.{◌≡◌, length};
+ghost use Rattle.sweeps.specs.Rows.{LeadOn, count_of};
+
+use crate::places::{Places, place_table};
+use crate::rows::Rows;
+use hierarchy::Hierarchy;
+use std::alloc::{AllocError, Global};
+
+/// The nodes of a road layer that is contracted whole, in the order in which it is, with what leads up and down among them. A
+/// place is a number of a node in that order.
+#[derive(Drop)]
+pub struct Sheet {
+    pub(crate) nodes: Vec<u32>,
+    /// For each place the legs from there to higher ones.
+    pub(crate) ups: Rows,
+    /// For each place the legs from higher ones to there; each says where it comes from.
+    pub(crate) downs: Rows,
+    ghost ups_each: { count_of ups ≡ length nodes.items },
+    ghost downs_each: { count_of downs ≡ length nodes.items },
+    ghost ups_on: { LeadOn ups (length nodes.items) },
+    ghost downs_on: { LeadOn downs (length nodes.items) },
+}
+
+impl Sheet {
+    ghost use Rattle.std.specs.Prelude.{◌≡◌, IfOk, IfSome, IfNone};
+    ghost use Rattle.sweeps.specs.Layers.{IsSheetOf, HasNoSheet};
+
+    /// The sheet of these nodes of a hierarchy, which are to be listed lowest first. None where one of them stands twice or is no
+    /// number of a node, where a leg leads to a node that does not stand behind the one that it leaves, or where one takes 2^32 ms or
+    /// longer. That it has 2^32 legs up or down counts as want of memory.
+    pub fn new(alloc: Global, h: &Hierarchy, nodes: Vec<u32>) -> Result<Option<Sheet>, AllocError>
+        ensures some { IfOk result (λ made. IfSome made (IsSheetOf h.now nodes.items)) }
+        ensures none { IfOk result (λ made. IfNone made (HasNoSheet h.now nodes.items)) }
+    {
+        if !h.has_legs() {
+            return Ok(None);
+        }
+        let Some(table) = place_table(alloc, &nodes)? else {
+            return Ok(None);
+        };
+        let places = Places {
+            nodes: &nodes,
+            of: &table,
+        };
+        let Some(ups) = places.all_ups(alloc, h)? else {
+            return Ok(None);
+        };
+        let Some(downs) = places.all_downs(alloc, h)? else {
+            return Ok(None);
+        };
+        Ok(Some(Sheet { nodes, ups, downs }))
+    }
+
+    /// The nodes, by their places.
+    pub fn nodes(&self) -> &[u32]
+        ensures { result.now ≡ self.now.nodes.items }
+    {
+        &self.nodes
+    }
+}
