@@ -11,7 +11,7 @@ use Rattle.sweeps.specs.inside.Steps.{AreSpread, IsSpreadBy, IsGathered, IsGathe
 -- ---- walks
 
 module _ (Leads : ℕ → ℕ → ℕ → Type 0) (times : List ℕ) where
-  -- nowhere a walk is needed where it is as late as before
+  -- where it is as late as before no hop is needed
   pub stands : (j : ℕ) → IsWalked Leads times j (time_at times j)
   stands j = record { start = j; hops = []; walk = refl; at = omega arith }
 
