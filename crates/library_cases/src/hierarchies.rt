@@ -1,4 +1,4 @@
-//! Hierarchies by their files, and by contraction; and the walks that spare shortcuts.
+//! Hierarchies by their files, and by contraction; the walks that spare shortcuts; and times after a sweep.
 
 ghost use Rattle.std.specs.Prelude.{◌≡◌, ◌<◌, length, All, IfOk};
 ghost use Rattle.mode_network.specs.NetworkLists.{nodes_of};

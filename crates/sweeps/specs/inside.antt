@@ -3,6 +3,6 @@ pub mod Bounds
 pub mod Building
 pub mod Tables
 pub mod Steps
-pub use Building.{IsOneMoreRow, LeadOnFrom, AreUps, AreDowns, AreRowsOf, AreUpsAt, AreDownsAt, IsPlaceBehind}
+pub use Building.{IsOneMoreRow, AreUps, AreDowns, AreRowsOf, AreUpsAt, AreDownsAt, IsPlaceBehind}
 pub use Steps.{IsLowered, IsSpreadBy, AreSpread, IsGatheredBy, IsGathered}
 pub use Tables.{ArePlacesOf}

@@ -11,9 +11,9 @@ impl Sheet {
     ghost use Rattle.sweeps.specs.Sheets.{IsWhole, LeadsUp, LeadsDown, LeadsBetween};
     ghost use Rattle.sweeps.specs.Sweeps.{AreWalked, AreClosed};
 
-    /// Makes the times at all places as early as walks from any of them do, by one sweep up and one down. Times are in
-    /// milliseconds since one moment, and the greatest number stands for never. Nothing is taken up from a place whose time is
-    /// the limit or later: what is to be below the limit comes out all the same.
+    /// Makes times earlier by walks from place to place, by one sweep up and one down. Where the sheet is whole, those below the
+    /// limit are then as early as walks from any place make them. Times are in milliseconds since one moment, and the greatest
+    /// number stands for never. Nothing is taken up from a place whose time is the limit or later.
     pub fn sweep(&self, times: &mut [u32], limit: u32)
         requires each { length times.old ≡ length self.now.nodes.items }
         ensures walked { AreWalked (LeadsBetween self.now) times.old times.new }

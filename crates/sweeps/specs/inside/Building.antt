@@ -1,8 +1,8 @@
 -- What the rows of a sheet are made of.
-use Rattle.std.specs.Prelude.{◌≡◌, ℕ, ◌+◌, ◌<◌, List, length, map, All, slice_index}
+use Rattle.std.specs.Prelude.{◌≡◌, ℕ, ◌+◌, ◌<◌, List, length, map, slice_index}
 use Rattle.search_laws.specs.{Leg}
 use Rattle.hierarchy.specs.{HierarchyLists, Fall, falls_into, legs_from}
-use Rattle.sweeps.specs.Rows.{Rows, row_at, count_of}
+use Rattle.sweeps.specs.Rows.{Rows, row_at, count_of, LeadOnFrom}
 use Rattle.sweeps.specs.Layers.{outward, origin, origin_of}
 
 -- the rows are those before, and behind them this one
@@ -10,10 +10,6 @@ pub record IsOneMoreRow (before : Rows) (row : List Leg) (after : Rows) : Type 0
   pub count : count_of after ≡ count_of before + 1
   pub kept : (i : ℕ) → i < count_of before → row_at after i ≡ row_at before i
   pub last : row_at after (count_of before) ≡ row
-
--- legs from place i to places further on, of so many
-abbrev pub LeadOnFrom : ℕ → ℕ → List Leg → Type 0
-LeadOnFrom count i row = All (λ leg. (i < leg.to) × (leg.to < count)) row
 
 -- the row of place i has these legs of the hierarchy
 pub record AreUps (nodes : List ℕ) (i : ℕ) (legs row : List Leg) : Type 0 where
