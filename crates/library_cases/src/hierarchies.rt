@@ -11,7 +11,7 @@ use hierarchy::{Hierarchy, Lists, Sizes};
 use hierarchy_file::{decode, decode_lists, encode};
 use mode_network::Network;
 use std::alloc::{AllocError, Global};
-use sweeps::Sheet;
+use sweeps::{Sheet, Slope};
 use witness::{Edge, Workspace, find};
 
 /// `hierarchy TEXT NODES`: what a hierarchy says of the first so many nodes, and whether it is written as the same bytes; or the
@@ -117,6 +117,44 @@ fn begin_at(nodes: &[u32], origin: u32, times: &mut [u32]) {
             times[i] = 0;
         }
     }
+}
+
+/// `descend TEXT ORIGIN`: the nodes of a hierarchy's order, the times of going down from one of them to each, in milliseconds, and whether
+/// a leg more fits.
+pub fn descend(out: &mut Answer, script: &Script, words: &[u8]) {
+    let alloc = out.alloc();
+    if let Ok(h) = decode(alloc, script.text(parts::word(words, 0))) {
+        if let Ok(slope) = order_slope(alloc, &h) {
+            print_descended(out, slope, parts::node(words, 1));
+        }
+    }
+}
+
+/// The slope of all nodes of an order, if it has one.
+fn order_slope(alloc: Global, h: &Hierarchy) -> Result<Option<Slope>, AllocError> {
+    let nodes = Vec::from_slice(alloc, h.order())?;
+    Slope::new(alloc, h, nodes)
+}
+
+fn print_descended(out: &mut Answer, slope: Option<Slope>, origin: u32) {
+    let Some(slope) = slope else {
+        return out.text("no slope");
+    };
+    if let Ok(times) = descended(out.alloc(), &slope, origin) {
+        out.debug("", slope.nodes());
+        out.debug(" in ", &times);
+        out.shown(", has room: ", slope.has_room(&times));
+    }
+}
+
+/// The times of going down from a node to each node of a slope.
+fn descended(alloc: Global, slope: &Slope, origin: u32) -> Result<Vec<u32>, AllocError> {
+    let mut times = vec![in alloc; u32::MAX; slope.nodes().len()]?;
+    if let Some(place) = slope.place_of(origin) {
+        times[place as usize] = 0;
+    }
+    slope.sweep_down(&mut times);
+    Ok(times)
 }
 
 /// Hears nothing of a contraction.

@@ -93,6 +93,7 @@ fn answer_of_files(out: &mut Answer, script: &Script, call: &str, words: &[u8]) 
         "region" => networks::region(out, script, words),
         "hierarchy" => hierarchies::hierarchy(out, script, words),
         "sweep" => hierarchies::sweep(out, script, words),
+        "descend" => hierarchies::descend(out, script, words),
         "certificate" => certificates::certificate(out, script.text(words)),
         _ => answer_of_expressions(out, script, call, words),
     }

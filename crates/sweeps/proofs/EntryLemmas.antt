@@ -3,7 +3,7 @@ use Rattle.plan_base.proofs.Common.{◌≡◌, ℕ, ◌*◌, ◌<◌, ◌||◌, 
 use Rattle.search_laws.specs.{Leg}
 use Rattle.hierarchy.specs.{Hop, Entry, Rise, HierarchyLists, HasEntry, IsAbove, IsHierarchy, IsRiseOf, entry_at, fall_at, falls_into, falls_to, from_of, has_legs, is_core, is_rise, leg_of, legs_from, no_entry, number_before, places_of, rise_at, rises_of}
 use Rattle.hierarchy.proofs.{FallLemmas.into_node, PlaceLemmas.Contains-map, RiseLemmas.are_rises_from}
-use Rattle.sweeps.specs.Sheets.{leg_by}
+use Rattle.sweeps.specs.Slopes.{leg_by}
 use Rattle.sweeps.specs.Layers.{origin_of}
 
 abbrev pub hop_by : ℕ → ℕ → Hop
@@ -50,7 +50,7 @@ module _ (h : HierarchyLists) where
         (subst (λ (x : Entry). Contains (map leg_of (rises_of h u)) (leg_of (rise_at there.0 x))) at leg)
 
   module _ (u v w : ℕ) where
-    pub fall_entry : Contains (map origin_of (falls_into h v)) (hop_by u w) → HasEntry h.entries u v w
+    pub fall_entry : Contains (map origin_of (falls_into h v)) (hop_by u w) → HasEntry h.entries u v w × IsAbove h.order u v
     fall_entry there =
         let places = places_of (falls_to h.order v) h.entries in
         let fall = Contains-from_map origin_of (falls_into h v) (hop_by u w) there in
@@ -58,8 +58,10 @@ module _ (h : HierarchyLists) where
         let are = into_node h.order h.entries v in
         let within : found.0 < length h.entries = All-contains (λ k. k < length h.entries) places found.0 are.within found.1 in
         let falls = are.each found.0 (entry_at h.entries found.0) found.1 (slice_get-get_or h.entries found.0 no_entry within) in
-        let same = ap origin_of found.2 ∙ fall.2 in
-        has_entry h.entries (entry_at h.entries found.0) u v w (Contains-get_or h.entries found.0 no_entry within) (ap (λ (x : Hop). x.to) same) falls.ends (ap (λ (x : Hop). x.weight) same)
+        let same = ap origin_of found.2 ∙ fall.2 in (
+          has_entry h.entries (entry_at h.entries found.0) u v w (Contains-get_or h.entries found.0 no_entry within) (ap (λ (x : Hop). x.to) same) falls.ends (ap (λ (x : Hop). x.weight) same),
+          subst (λ x. IsAbove h.order x v) (ap (λ (x : Hop). x.to) same) falls.above,
+        )
 
     -- an entry that leads down is a fall
     pub entry_fall : HasEntry h.entries u v w → IsAbove h.order u v → Contains (map origin_of (falls_into h v)) (hop_by u w)

@@ -5,7 +5,8 @@ use Rattle.mode_network.specs.{NetworkLists.NetworkLists}
 use Rattle.hierarchy.specs.{Hop, AreHops, total, IsDescent, HierarchyLists, height_in, HasEntry, IsAbove, IsHierarchy, IsSound, number_before}
 use Rattle.hierarchy.proofs.{PlaceLemmas.Contains-map, Shapes.IsShaped, SoundLemmas.shaped}
 use Rattle.sweeps.specs.Rows.{row_at}
-use Rattle.sweeps.specs.Sheets.{Sheet, leg_by, LeadsUp, LeadsDown, LeadsBetween, HasWayOver, IsWhole}
+use Rattle.sweeps.specs.Slopes.{leg_by, LeadsDown}
+use Rattle.sweeps.specs.Sheets.{Sheet, LeadsUp, LeadsBetween, HasWayOver, IsWhole}
 use Rattle.sweeps.specs.Layers.{IsLayer, IsSheetOf, SheetsAreWhole, origin, outward}
 use Rattle.sweeps.proofs.EntryLemmas.{Contains-from_map, entry_fall, entry_leg, fall_entry, hop_by, leg_entry}
 
@@ -22,19 +23,19 @@ module _ (h : HierarchyLists) (nodes : List ℕ) (s : Sheet) (rules : IsHierarch
   abbrev height : ℕ → ℕ
   height v = height_in h.order v
 
-  many : length s.nodes.items ≡ length nodes
-  many = ap length is.nodes_are
+  many : length s.slope.nodes.items ≡ length nodes
+  many = ap length is.slope.nodes_are
 
   -- ---- places
 
   up_inside : (i : ℕ) (leg : Leg) → i < length nodes → Contains (row_at s.ups i) leg → leg.to < length nodes
   up_inside i leg lt of =
-      let on = All-contains (λ (l : Leg). (i < l.to) × (l.to < length s.nodes.items)) (row_at s.ups i) leg (s.ups_on i (omega (arith, many))) of in
+      let on = All-contains (λ (l : Leg). (i < l.to) × (l.to < length s.slope.nodes.items)) (row_at s.ups i) leg (s.ups_on i (omega (arith, many))) of in
       omega (arith, many, on.1)
 
-  down_inside : (i : ℕ) (leg : Leg) → i < length nodes → Contains (row_at s.downs i) leg → leg.to < length nodes
+  down_inside : (i : ℕ) (leg : Leg) → i < length nodes → Contains (row_at s.slope.downs i) leg → leg.to < length nodes
   down_inside i leg lt of =
-      let on = All-contains (λ (l : Leg). (i < l.to) × (l.to < length s.nodes.items)) (row_at s.downs i) leg (s.downs_on i (omega (arith, many))) of in
+      let on = All-contains (λ (l : Leg). (i < l.to) × (l.to < length s.slope.nodes.items)) (row_at s.slope.downs i) leg (s.slope.downs_on i (omega (arith, many))) of in
       omega (arith, many, on.1)
 
   inside : (i j w : ℕ) → LeadsBetween s i j w → (i < length nodes) × (j < length nodes)
@@ -66,8 +67,8 @@ module _ (h : HierarchyLists) (nodes : List ℕ) (s : Sheet) (rules : IsHierarch
       leg_entry h rules is.short (node i) (node j) w
       (subst (λ (legs : List Leg). Contains legs (leg_by (number_before (node j)) w)) (is.ups i (omega (arith, many))) (Contains-map (outward nodes) (row_at s.ups i) (leg_by j w) leg))
   between_entry i j w (inr (lt, leg)) =
-      fall_entry h (node i) (node j) w
-      (subst (λ (hops : List Hop). Contains hops (hop_by (node i) w)) (is.downs j (omega (arith, many))) (Contains-map (origin nodes) (row_at s.downs j) (leg_by i w) leg))
+      (fall_entry h (node i) (node j) w
+      (subst (λ (hops : List Hop). Contains hops (hop_by (node i) w)) (is.slope.downs j (omega (arith, many))) (Contains-map (origin nodes) (row_at s.slope.downs j) (leg_by i w) leg))).0
 
   node_walk : (hops : List Hop) (i j : ℕ) → AreHops (LeadsBetween s) i hops j → HasHops (HasEntry h.entries) (node i) (node j) (total hops)
   node_walk [] i j walk = record { hops = []; walk = ap node walk; weighs = refl }
@@ -87,16 +88,16 @@ module _ (h : HierarchyLists) (nodes : List ℕ) (s : Sheet) (rules : IsHierarch
         let place : found.0.to ≡ j = one_place found.0.to j (up_inside i found.0 low found.1) high (omega (arith, twice)) in
         (omega (arith, many), subst (λ k. Contains (row_at s.ups i) (leg_by k w)) place (subst (λ m. Contains (row_at s.ups i) (leg_by found.0.to m)) (ap (λ (l : Leg). l.ms) found.2) found.1))
 
-    entry_down : IsAbove h.order (node i) (node j) → LeadsDown s i j w
+    entry_down : IsAbove h.order (node i) (node j) → LeadsDown s.slope i j w
     entry_down above =
         let there = entry_fall h (node i) (node j) w entry above in
-        let found = Contains-from_map (origin nodes) (row_at s.downs j) (hop_by (node i) w) (subst (λ (hops : List Hop). Contains hops (hop_by (node i) w)) (sym (is.downs j high)) there) in
+        let found = Contains-from_map (origin nodes) (row_at s.slope.downs j) (hop_by (node i) w) (subst (λ (hops : List Hop). Contains hops (hop_by (node i) w)) (sym (is.slope.downs j high)) there) in
         let place : found.0.to ≡ i = one_place found.0.to i (down_inside j found.0 high found.1) low (ap (λ (x : Hop). x.to) found.2) in
-        (omega (arith, many), subst (λ k. Contains (row_at s.downs j) (leg_by k w)) place (subst (λ m. Contains (row_at s.downs j) (leg_by found.0.to m)) (ap (λ (x : Hop). x.weight) found.2) found.1))
+        (omega (arith, many), subst (λ k. Contains (row_at s.slope.downs j) (leg_by k w)) place (subst (λ m. Contains (row_at s.slope.downs j) (leg_by found.0.to m)) (ap (λ (x : Hop). x.weight) found.2) found.1))
 
   -- ---- walks of entries that climb and descend
 
-  down : (hops : List Hop) (i j : ℕ) → i < length nodes → j < length nodes → AreHops (HasEntry h.entries) (node i) hops (node j) → IsDescent height (node i) hops → HasHops (LeadsDown s) i j (total hops)
+  down : (hops : List Hop) (i j : ℕ) → i < length nodes → j < length nodes → AreHops (HasEntry h.entries) (node i) hops (node j) → IsDescent height (node i) hops → HasHops (LeadsDown s.slope) i j (total hops)
   down [] i j low high walk falls = record { hops = []; walk = one_place j i high low walk; weighs = refl }
   down (hop ∷ hops) i j low high (entry, walk) (lower, falls) =
       let k = end_place i hop.to hop.weight low entry in

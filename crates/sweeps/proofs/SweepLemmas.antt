@@ -3,7 +3,8 @@ use Rattle.plan_base.proofs.Common.{◌≡◌, ℕ, ◌+◌, ◌<◌, ◌≤◌,
 use Rattle.hierarchy.specs.{Hop, AreHops, total}
 use Rattle.hierarchy.proofs.HopLemmas.{hops_then, hops_weaker, total-append}
 use Rattle.sweeps.specs.Rows.{row_at}
-use Rattle.sweeps.specs.Sheets.{Sheet, leg_by, LeadsUp, LeadsDown, LeadsBetween, IsWhole}
+use Rattle.sweeps.specs.Slopes.{Slope, leg_by, LeadsDown}
+use Rattle.sweeps.specs.Sheets.{Sheet, LeadsUp, LeadsBetween, IsWhole}
 use Rattle.sweeps.specs.Sweeps.{time_at, ArrivesBy, IsWalked, AreWalked, AreClosed}
 use Rattle.sweeps.proofs.EntryLemmas.{hop_by}
 use Rattle.sweeps.specs.inside.Steps.{AreSpread, IsSpreadBy, IsGathered, IsGatheredBy}
@@ -45,7 +46,7 @@ module _ (s : Sheet) (limit : ℕ) (before : List ℕ) where
   pub up_begins : UpTo 0 before
   up_begins = record { walked = unchanged (LeadsUp s) before; closed = λ i j w lt leads. absurd (omega arith) }
 
-  pub up_ends : (k : ℕ) (now : List ℕ) → length s.nodes.items ≤ k → UpTo k now → AreClosed (LeadsUp s) limit now
+  pub up_ends : (k : ℕ) (now : List ℕ) → length s.slope.nodes.items ≤ k → UpTo k now → AreClosed (LeadsUp s) limit now
   up_ends k now all up = λ i j w leads. up.closed i j w (omega (arith, leads.0)) leads
 
   module _ (k : ℕ) (now : List ℕ) (up : UpTo k now) where
@@ -59,7 +60,7 @@ module _ (s : Sheet) (limit : ℕ) (before : List ℕ) where
       ];
     }
 
-    pub up_more : (next : List ℕ) (t : ℕ) → t ≡ time_at now k → k < length s.nodes.items → limit ≤ 2 ^ 32 → AreSpread t (row_at s.ups k) now next → UpTo (k + 1) next
+    pub up_more : (next : List ℕ) (t : ℕ) → t ≡ time_at now k → k < length s.slope.nodes.items → limit ≤ 2 ^ 32 → AreSpread t (row_at s.ups k) now next → UpTo (k + 1) next
     up_more next t at inside small spread = record {
       walked = record {
         as_many = spread.as_many ∙ up.walked.as_many;
@@ -78,7 +79,7 @@ module _ (s : Sheet) (limit : ℕ) (before : List ℕ) where
       same : (i : ℕ) → i ≤ k → time_at next i ≡ time_at now i
       same i le = elim (spread.changed i) [
         | inl stays ↦ stays
-        | inr by ↦ (let on = All-contains (λ leg. (k < leg.to) × (leg.to < length s.nodes.items)) (row_at s.ups k) by.leg (s.ups_on k inside) by.of in let to = by.to in absurd (omega (arith, on.0)))
+        | inr by ↦ (let on = All-contains (λ leg. (k < leg.to) × (leg.to < length s.slope.nodes.items)) (row_at s.ups k) by.leg (s.ups_on k inside) by.of in let to = by.to in absurd (omega (arith, on.0)))
       ]
 
       by_change : (j : ℕ) → (time_at next j ≡ time_at now j) ⊎ IsSpreadBy t (row_at s.ups k) j (time_at next j) → IsWalked (LeadsUp s) before j (time_at next j)
@@ -90,7 +91,7 @@ module _ (s : Sheet) (limit : ℕ) (before : List ℕ) where
 
 -- ---- the sweep down
 
-module _ (s : Sheet) (before : List ℕ) where
+module _ (s : Slope) (before : List ℕ) where
   -- the legs down to the places from k on are taken
   pub record DownFrom (k : ℕ) (now : List ℕ) : Type 0 where
     pub walked : AreWalked (LeadsDown s) before now
@@ -137,7 +138,7 @@ module _ (s : Sheet) (before : List ℕ) where
 
 -- ---- both
 
-module _ (s : Sheet) (before between after : List ℕ) (up : AreWalked (LeadsUp s) before between) (down : AreWalked (LeadsDown s) between after) where
+module _ (s : Sheet) (before between after : List ℕ) (up : AreWalked (LeadsUp s) before between) (down : AreWalked (LeadsDown s.slope) between after) where
   -- a walk up before a walk down
   walked : (j : ℕ) → IsWalked (LeadsBetween s) before j (time_at after j)
   walked j =
@@ -148,14 +149,14 @@ module _ (s : Sheet) (before between after : List ℕ) (up : AreWalked (LeadsUp 
         hops = first.hops ++ second.hops;
         walk = hops_then (LeadsBetween s) first.hops second.hops first.start second.start j
             (hops_weaker (LeadsUp s) (LeadsBetween s) (λ u v w leads. inl leads) first.hops first.start second.start first.walk)
-            (hops_weaker (LeadsDown s) (LeadsBetween s) (λ u v w leads. inr leads) second.hops second.start j second.walk);
+            (hops_weaker (LeadsDown s.slope) (LeadsBetween s) (λ u v w leads. inr leads) second.hops second.start j second.walk);
         at = omega (arith, first.at, second.at, total-append first.hops second.hops);
       }
 
   pub both_walked : AreWalked (LeadsBetween s) before after
   both_walked = record { as_many = down.as_many ∙ up.as_many; no_later = λ j. omega (arith, up.no_later j, down.no_later j); walked = walked }
 
-  pub both_closed : (limit : ℕ) → limit ≤ 2 ^ 32 → AreClosed (LeadsUp s) limit between → AreClosed (LeadsDown s) (2 ^ 32) after → IsWhole s → AreClosed (LeadsBetween s) limit after
+  pub both_closed : (limit : ℕ) → limit ≤ 2 ^ 32 → AreClosed (LeadsUp s) limit between → AreClosed (LeadsDown s.slope) (2 ^ 32) after → IsWhole s → AreClosed (LeadsBetween s) limit after
   both_closed limit small up_closed down_closed whole = λ i j w leads below.
       (let is = walked i in
       let to = is.hops ++ hop_by j w ∷ [] in
@@ -164,5 +165,5 @@ module _ (s : Sheet) (before between after : List ℕ) (up : AreWalked (LeadsUp 
       let begin : time_at between is.start ≤ time_at before is.start = up.no_later is.start in
       let top : time_at between way.peak ≤ time_at between is.start + total way.climb = closed_along (LeadsUp s) between limit up_closed way.climb is.start way.peak way.climbs (omega (arith, is.at)) in
       let lower : time_at after way.peak ≤ time_at between way.peak = down.no_later way.peak in
-      let end : time_at after j ≤ time_at after way.peak + total way.descent = closed_along (LeadsDown s) after (2 ^ 32) down_closed way.descent way.peak j way.descends (omega (arith, is.at)) in
+      let end : time_at after j ≤ time_at after way.peak + total way.descent = closed_along (LeadsDown s.slope) after (2 ^ 32) down_closed way.descent way.peak j way.descends (omega (arith, is.at)) in
       omega (arith, is.at))

@@ -1,9 +1,9 @@
--- Sheets of a hierarchy, and when one is whole.
+-- Slopes and sheets of a hierarchy, and when a sheet is whole.
 use Rattle.std.specs.Prelude.{◌≡◌, ℕ, ◌<◌, ◌≤◌, ◌^◌, ◌⊎◌, true, false, List, length, map, All, Contains, slice_index}
 use Rattle.search_laws.specs.{Leg}
 use Rattle.mode_network.specs.NetworkLists.{NetworkLists}
 use Rattle.hierarchy.specs.{Hop, HierarchyLists, height_in, IsContracted, HasEntry, IsSound, IsHierarchy, Fall, falls_into, has_legs, legs_from, number_before}
-use Rattle.sweeps.specs.{Rows.row_at, Sheets.Sheet, Sheets.IsWhole}
+use Rattle.sweeps.specs.{Rows.row_at, Slopes.Slope, Sheets.Sheet, Sheets.IsWhole}
 
 -- a leg up as the hierarchy has it, by the node that it leads to
 abbrev pub outward : List ℕ → Leg → Leg
@@ -16,12 +16,16 @@ origin nodes leg = record { to = slice_index nodes leg.to; weight = leg.ms }
 abbrev pub origin_of : Fall → Hop
 origin_of fall = record { to = fall.from; weight = fall.weight }
 
--- the sheet has these nodes, and at each of them what leads up from it and what leads down to it in the hierarchy
-pub record IsSheetOf (h : HierarchyLists) (nodes : List ℕ) (s : Sheet) : Type 0 where
+-- the slope has these nodes, and at each of them what leads down to it in the hierarchy
+pub record IsSlopeOf (h : HierarchyLists) (nodes : List ℕ) (s : Slope) : Type 0 where
   pub nodes_are : s.nodes.items ≡ nodes
+  pub downs : (i : ℕ) → i < length nodes → map (origin nodes) (row_at s.downs i) ≡ map origin_of (falls_into h (slice_index nodes i))
+
+-- the sheet has the slope of these nodes, and at each of them what leads up from it in the hierarchy
+pub record IsSheetOf (h : HierarchyLists) (nodes : List ℕ) (s : Sheet) : Type 0 where
+  pub slope : IsSlopeOf h nodes s.slope
   pub short : has_legs h ≡ true
   pub ups : (i : ℕ) → i < length nodes → map (outward nodes) (row_at s.ups i) ≡ legs_from h (slice_index nodes i)
-  pub downs : (i : ℕ) → i < length nodes → map (origin nodes) (row_at s.downs i) ≡ map origin_of (falls_into h (slice_index nodes i))
 
 -- ---- why nodes have none
 
@@ -49,12 +53,16 @@ pub record ComesFromElsewhere (nodes : List ℕ) (i : ℕ) (falls : List Fall) :
   pub of : Contains falls fall
   pub why : (StandsBehind nodes i fall.from → ⊥) ⊎ (2 ^ 32 ≤ fall.weight)
 
+abbrev pub HasNoSlope : HierarchyLists → List ℕ → Type 0
+HasNoSlope h nodes =
+    ((i : ℕ) × IsNoNewNode nodes i)
+    ⊎ ((i : ℕ) × (i < length nodes) × ComesFromElsewhere nodes i (falls_into h (slice_index nodes i)))
+
 abbrev pub HasNoSheet : HierarchyLists → List ℕ → Type 0
 HasNoSheet h nodes =
     (has_legs h ≡ false)
-    ⊎ ((i : ℕ) × IsNoNewNode nodes i)
+    ⊎ HasNoSlope h nodes
     ⊎ ((i : ℕ) × (i < length nodes) × LeadsElsewhere nodes i (legs_from h (slice_index nodes i)))
-    ⊎ ((i : ℕ) × (i < length nodes) × ComesFromElsewhere nodes i (falls_into h (slice_index nodes i)))
 
 -- ---- whole ones
 

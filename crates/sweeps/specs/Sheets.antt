@@ -1,25 +1,17 @@
 -- A road layer that is contracted whole: its nodes from the lowest on, with what leads up and down among them.
 use Rattle.std.specs.Prelude.{ℕ, ◌+◌, ◌<◌, ◌≤◌, ◌⊎◌, List, length, Contains}
-use Rattle.search_laws.specs.{Leg}
 use Rattle.hierarchy.specs.{Hop, AreHops, total}
 pub use Rattle.sweeps.specs.declared.sheet.Sheet.{Sheet}
-use Rattle.sweeps.specs.Rows.{row_at}
+use Rattle.sweeps.specs.{Rows.row_at, Slopes.leg_by, Slopes.LeadsDown}
 
 -- ---- legs between places
 
-abbrev pub leg_by : ℕ → ℕ → Leg
-leg_by place ms = record { to = place; ms = ms }
-
 -- a leg leads from place i up to place j
 abbrev pub LeadsUp : Sheet → ℕ → ℕ → ℕ → Type 0
-LeadsUp s i j w = (i < length s.nodes.items) × Contains (row_at s.ups i) (leg_by j w)
-
--- a leg leads from place i down to place j, in whose row it stands
-abbrev pub LeadsDown : Sheet → ℕ → ℕ → ℕ → Type 0
-LeadsDown s i j w = (j < length s.nodes.items) × Contains (row_at s.downs j) (leg_by i w)
+LeadsUp s i j w = (i < length s.slope.nodes.items) × Contains (row_at s.ups i) (leg_by j w)
 
 abbrev pub LeadsBetween : Sheet → ℕ → ℕ → ℕ → Type 0
-LeadsBetween s i j w = LeadsUp s i j w ⊎ LeadsDown s i j w
+LeadsBetween s i j w = LeadsUp s i j w ⊎ LeadsDown s.slope i j w
 
 -- a walk up and then down, that takes no longer than the limit
 pub record HasWayOver (s : Sheet) (i j limit : ℕ) : Type 0 where
@@ -27,7 +19,7 @@ pub record HasWayOver (s : Sheet) (i j limit : ℕ) : Type 0 where
   pub climb : List Hop
   pub descent : List Hop
   pub climbs : AreHops (LeadsUp s) i climb peak
-  pub descends : AreHops (LeadsDown s) peak descent j
+  pub descends : AreHops (LeadsDown s.slope) peak descent j
   pub within : total climb + total descent ≤ limit
 
 -- for each walk there is one up and down that takes no longer

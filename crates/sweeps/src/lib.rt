@@ -5,8 +5,10 @@ mod laws;
 mod places;
 pub mod rows;
 pub mod sheet;
+pub mod slope;
 mod sweeping;
 
 pub use laws::sheets_are_whole;
 pub use rows::Rows;
 pub use sheet::Sheet;
+pub use slope::Slope;

@@ -59,9 +59,25 @@ fn past(nodes: &[u32]) -> u32
 }
 
 impl Places<'_> {
-    ghost use Rattle.std.specs.Prelude.{◌≡◌, ℕ, ◌<◌, false, IfOk, IfSome, IfNone, IsTrue, length, slice_index};
+    ghost use Rattle.std.specs.Prelude.{◌≡◌, ℕ, ◌<◌, false, Contains, IfOk, IfSome, IfNone, IsTrue, length, slice_index};
     ghost use Rattle.hierarchy.specs.Rises.{legs_from};
     ghost use Rattle.hierarchy.specs.Lookups.{falls_into};
+
+    /// The place of a node, if it is one of these.
+    #[inline(always)]
+    pub(crate) fn place_of(&self, node: u32) -> Option<u32>
+        ensures some { IfSome result (λ place. (place < length self.now.nodes.now)
+            × (slice_index self.now.nodes.now place ≡ node)) }
+        ensures none { IfNone result (Contains self.now.nodes.now node → ⊥) }
+    {
+        let place = *self.of.get(node as usize)?;
+        let at = place as usize;
+        if at < self.nodes.len() && self.nodes[at] == node {
+            Some(place)
+        } else {
+            None
+        }
+    }
 
     /// The place of a node, if it is behind place `i`.
     #[inline(always)]
@@ -69,9 +85,8 @@ impl Places<'_> {
         ensures some { IfSome result (IsPlaceBehind self.now.nodes.now i node) }
         ensures none { IfNone result (StandsBehind self.now.nodes.now i node → ⊥) }
     {
-        let place = *self.of.get(node as usize)?;
-        let at = place as usize;
-        if i < at && at < self.nodes.len() && self.nodes[at] == node {
+        let place = self.place_of(node)?;
+        if i < place as usize {
             Some(place)
         } else {
             None

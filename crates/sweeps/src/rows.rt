@@ -16,7 +16,7 @@ pub struct Rows {
 }
 
 impl Rows {
-    ghost use Rattle.std.specs.Prelude.{◌≡◌, ◌<◌, IfOk};
+    ghost use Rattle.std.specs.Prelude.{◌≡◌, ◌<◌, ◌≤◌, ℕ, All, IfOk};
     ghost use Rattle.sweeps.specs.Rows.{row_at, count_of};
     ghost use Rattle.sweeps.specs.inside.Building.{IsOneMoreRow};
 
@@ -39,6 +39,17 @@ impl Rows {
         ensures { result.now ≡ row_at self.now i }
     {
         &self.legs[self.bounds[i] as usize..self.bounds[i + 1] as usize]
+    }
+
+    /// How long the longest leg takes.
+    pub(crate) fn longest(&self) -> u32
+        ensures { (i : ℕ) → All (λ leg. leg.ms ≤ result) (row_at self.now i) }
+    {
+        let mut longest = 0;
+        for leg in &self.legs {
+            longest = longest.max(leg.ms);
+        }
+        longest
     }
 
     /// These rows, and one more behind them. That they have 2^32 legs or more together counts as want of memory.

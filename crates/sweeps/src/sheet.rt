@@ -3,8 +3,8 @@
 ghost use Rattle.std.specs.Prelude.{◌≡◌, length};
 ghost use Rattle.sweeps.specs.Rows.{LeadOn, count_of};
 
-use crate::places::{Places, place_table};
 use crate::rows::Rows;
+use crate::slope::Slope;
 use hierarchy::Hierarchy;
 use std::alloc::{AllocError, Global};
 
@@ -12,15 +12,12 @@ use std::alloc::{AllocError, Global};
 /// place is a number of a node in that order.
 #[derive(Drop)]
 pub struct Sheet {
-    pub(crate) nodes: Vec<u32>,
+    /// The nodes with what leads down.
+    pub(crate) slope: Slope,
     /// For each place the legs from there to higher ones.
     pub(crate) ups: Rows,
-    /// For each place the legs from higher ones to there; each says where it comes from.
-    pub(crate) downs: Rows,
-    ghost ups_each: { count_of ups ≡ length nodes.items },
-    ghost downs_each: { count_of downs ≡ length nodes.items },
-    ghost ups_on: { LeadOn ups (length nodes.items) },
-    ghost downs_on: { LeadOn downs (length nodes.items) },
+    ghost ups_each: { count_of ups ≡ length slope.nodes.items },
+    ghost ups_on: { LeadOn ups (length slope.nodes.items) },
 }
 
 impl Sheet {
@@ -37,26 +34,19 @@ impl Sheet {
         if !h.has_legs() {
             return Ok(None);
         }
-        let Some(table) = place_table(alloc, &nodes)? else {
+        let Some(slope) = Slope::new(alloc, h, nodes)? else {
             return Ok(None);
         };
-        let places = Places {
-            nodes: &nodes,
-            of: &table,
-        };
-        let Some(ups) = places.all_ups(alloc, h)? else {
+        let Some(ups) = slope.places().all_ups(alloc, h)? else {
             return Ok(None);
         };
-        let Some(downs) = places.all_downs(alloc, h)? else {
-            return Ok(None);
-        };
-        Ok(Some(Sheet { nodes, ups, downs }))
+        Ok(Some(Sheet { slope, ups }))
     }
 
     /// The nodes, by their places.
     pub fn nodes(&self) -> &[u32]
-        ensures { result.now ≡ self.now.nodes.items }
+        ensures { result.now ≡ self.now.slope.nodes.items }
     {
-        &self.nodes
+        self.slope.nodes()
     }
 }

@@ -11,7 +11,7 @@ loop-i-preserved c =
     let before = c.args.times.now in
     let i = c.loop-i.i in
     let now = c.loop-i.times in
-    let inside : i < length s.nodes.items = omega (arith, c.loop-i-test.true, c.len-i-end.ensures) in
+    let inside : i < length s.slope.nodes.items = omega (arith, c.loop-i-test.true, c.len-i-end.ensures) in
     record {
       up = elim c.if-t-limit.branch [
         | then-t-limit w ↦ subst (UpTo s c.args.limit before (i + 1)) (sym w.times-is)

@@ -2,7 +2,7 @@ use Rattle.plan_base.proofs.Common.{◌≡◌, ◌+◌, ◌-◌, ◌<◌, length
 use Rattle.sweeps.specs.Sweeps.{time_at}
 use Rattle.sweeps.specs.inside.Steps.{IsGathered}
 use Rattle.sweeps.proofs.SweepLemmas.{DownFrom, down_more}
-use Rattle.sweeps.proofs.sheet.Sheet.sweep_down.Goals as goal
+use Rattle.sweeps.proofs.slope.Slope.sweep_down.Goals as goal
 
 pub loop-i-preserved : goal.loop-i-preserved
 loop-i-preserved c =

@@ -1,5 +1,5 @@
 use Rattle.sweeps.proofs.SweepLemmas.{DownFrom}
-use Rattle.sweeps.proofs.sheet.Sheet.sweep_down.Given as goal
+use Rattle.sweeps.proofs.slope.Slope.sweep_down.Given as goal
 
 -- what leads down to the places from i on is taken
 abbrev pub invariant-loop-i : goal.invariant-loop-i
