@@ -1,8 +1,11 @@
 -- How the destinations of queries are kept, so that one search finds the arrivals at all of them.
-use Rattle.std.specs.Prelude.{◌≡◌, ℕ, ◌+◌, ◌<◌, List, [], ◌∷◌, ◌++◌, length, min, Option, Some, None, Contains, slice_index_or, option_map, fold, slice_range}
+use Rattle.std.specs.Prelude.{◌≡◌, ℕ, ◌+◌, ◌<◌, List, [], ◌∷◌, ◌++◌, length, min, Option, Some, None, All, Contains, IfSome, slice_index, slice_index_or, option_map, fold, slice_range}
 use Rattle.std.specs.Borrow.{Bor}
+use Rattle.search_laws.specs.{GraphMeaning, LabelsMeaning}
+use Rattle.product_search.specs.{IsArrival}
 use Rattle.hierarchy.specs.{declared.hierarchy.Hierarchy.Hierarchy, HierarchyLists}
-use Rattle.phase_graph.specs.{IsInUse, IsSoundIfGiven, ends_in, meaning_in_use}
+use Rattle.phase_graph.specs.{IsInUse, IsSoundIfGiven, starts_in, ends_in, meaning_in_use}
+use Rattle.descents.specs.{declared.descents.Descents.Descents, AreDescents, IsServed}
 use Rattle.mode_network.specs.NetworkLists.{NetworkLists}
 use Rattle.journey.specs.{Query, AreTheCopies}
 pub use Rattle.planning.specs.{declared.destinations.Part.Part, declared.destinations.Listing.Listing, declared.destinations.Destinations.Destinations}
@@ -38,19 +41,49 @@ ArePartsFor n h targets numbers queries parts count = (k : ℕ) → k < count �
 -- all destinations of the queries are listed
 pub record AreListed (n : NetworkLists) (h : Option HierarchyLists) (queries : List (Option Query)) (l : Listing) : Type 0 where
   pub one_each : length l.parts.items ≡ length queries
+  pub numbers_are : l.numbers.items ≡ ends_in h l.targets.items
   pub are : ArePartsFor n h l.targets.items l.numbers.items queries l.parts.items (length queries)
+
+-- the descents are those of the hierarchy to the targets
+pub record DescendTo (n : NetworkLists) (h : Option HierarchyLists) (targets : List ℕ) (d : Descents) : Type 0 where
+  pub are : AreDescents d
+  pub network : d.network.now ≡ n
+  pub hierarchy : h ≡ Some d.hierarchy.now
+  pub served : All (IsServed d) targets
 
 -- the hierarchy that destinations are searched over, if there is one
 abbrev pub hierarchy_searched : Destinations → Option HierarchyLists
 hierarchy_searched d = option_map (λ (h : Bor Hierarchy). h.now) d.hierarchy
 
--- the graph in use is that for the copies of all destinations, and the table has their numbers in it
+-- the graph in use is that for the copies of all destinations, the table has their numbers in it, and what descents there are lead to them
 pub record AreDestinations (d : Destinations) : Type 0 where
   pub sound : IsSoundIfGiven d.network.now (hierarchy_searched d)
   pub targets : List ℕ
   pub in_use : IsInUse d.network.now (hierarchy_searched d) targets (meaning_in_use d.graph)
+  pub numbers_are : d.table.nodes.items ≡ ends_in (hierarchy_searched d) targets
+  pub descents : IfSome d.descents (DescendTo d.network.now (hierarchy_searched d) targets)
   pub one_each : length d.parts.items ≡ length d.queries.now
   pub are : ArePartsFor d.network.now (hierarchy_searched d) targets d.table.nodes.items d.queries.now d.parts.items (length d.queries.now)
+
+-- ---- the arrivals at the numbers
+
+-- The least arrival at some ends, of which p is one. Wherever p is a number of some targets, so are all of these: as p alone is, and as are
+-- the numbers of its node.
+pub record IsArrivalAround (h : Option HierarchyLists) (g : GraphMeaning) (l : LabelsMeaning) (starts : List ℕ) (dep p : ℕ) (arrival : Option ℕ) : Type 0 where
+  pub ends : List ℕ
+  pub there : Contains ends p
+  pub alike : (targets : List ℕ) → Contains (ends_in h targets) p → (v : ℕ) → Contains ends v → Contains (ends_in h targets) v
+  pub is : IsArrival g l starts ends dep None arrival
+
+-- one for each of these numbers, in order
+pub record AreArrivalsAround (h : Option HierarchyLists) (g : GraphMeaning) (l : LabelsMeaning) (starts numbers : List ℕ) (dep : ℕ) (times : List (Option ℕ)) : Type 0 where
+  pub one_each : length times ≡ length numbers
+  pub are : (k : ℕ) → k < length numbers → IsArrivalAround h g l starts dep (slice_index numbers k) (slice_index_or times k None)
+
+-- one for each number of the destinations, from these origins on
+abbrev pub AreNumberArrivals : Destinations → LabelsMeaning → List ℕ → ℕ → List (Option ℕ) → Type 0
+AreNumberArrivals d l origins dep times =
+    AreArrivalsAround (hierarchy_searched d) (meaning_in_use d.graph) l (starts_in (hierarchy_searched d) origins) d.table.nodes.items dep times
 
 -- ---- the earliest of some times
 

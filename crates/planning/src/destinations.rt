@@ -1,22 +1,28 @@
 //! When best journeys arrive at many destinations, found by one search.
 
-ghost use Rattle.std.specs.Prelude.{◌≡◌, ◌<◌, ◌≤◌, All, IfOk, IfSome, OnOk, length, map, option_map};
+ghost use Rattle.std.specs.Prelude.{◌≡◌, ◌<◌, ◌≤◌, ◌^◌, All, IfOk, IfSome, OnOk, length, map, option_map};
 ghost use Rattle.hierarchy.specs.Soundness.{IsSound};
 ghost use Rattle.mode_network.specs.NetworkLists.{nodes_of};
 ghost use Rattle.planning.specs.Arrivals.{AreArrivalsTo};
 ghost use Rattle.planning.specs.Plans.{IsRead};
 ghost use Rattle.planning.specs.Destinations.{AddsDestination, AreCopiesTo, AreDestinations, AreListed};
+ghost use Rattle.planning.specs.Destinations.{AreNumberArrivals, DescendTo};
 ghost use Rattle.planning.specs.Destinations.{earlier, earliest, earliest_in};
 
 use automaton::positions_accept;
+use descents::Descents;
 use hierarchy::Hierarchy;
 use journey::{Query, copies};
 use kept_automata::{Forward, Room};
 use mode_network::Network;
 use phase_graph::{GraphInUse, MarkTable, ends_in, starts_in};
 use plan_base::Time;
-use product_search::{TargetTable, search_arrivals};
+use product_search::{Machine, TargetTable, Workspace, search_arrivals};
+use search_laws::RoadLabels;
 use std::alloc::{AllocError, Global};
+
+/// So many targets that are contracted are many.
+const MANY: usize = 64;
 
 /// Where the numbers of a destination's copies stand among those of all destinations: from a place to before another.
 #[derive(Clone, Copy)]
@@ -34,6 +40,8 @@ struct Listing {
 }
 
 /// The destinations of some queries, made ready so that one search finds when the best journeys arrive at each of them.
+///
+/// Where they are many and a hierarchy is given, the search goes up and along the core alone, and one sweep leads down from there.
 #[derive(Drop)]
 pub struct Destinations<'a> {
     pub network: &'a Network,
@@ -42,6 +50,7 @@ pub struct Destinations<'a> {
     graph: GraphInUse<'a>,
     table: TargetTable,
     parts: Vec<Part>,
+    descents: Option<Descents<'a>>,
 }
 
 impl<'a> Destinations<'a> {
@@ -66,6 +75,7 @@ impl<'a> Destinations<'a> {
         let mut marks = MarkTable::new(alloc);
         let graph = GraphInUse::new(alloc, &mut marks, network, hierarchy, &targets)?;
         let table = TargetTable::new(alloc, numbers)?;
+        let descents = descents_to(alloc, network, hierarchy, &targets)?;
         Ok(Destinations {
             network,
             hierarchy,
@@ -73,6 +83,7 @@ impl<'a> Destinations<'a> {
             graph,
             table,
             parts,
+            descents,
         })
     }
 
@@ -93,19 +104,68 @@ impl<'a> Destinations<'a> {
         positions_accept();
         let expressed = room.kept.take(alloc, Forward, query)?;
         let origins = copies(alloc, self.network, &query.from)?;
-        let starts = starts_in(alloc, self.hierarchy, &origins)?;
-        let (graph, table) = (&self.graph, &self.table);
-        let times = search_arrivals(
+        let times = self.number_arrivals(
+            alloc,
             &mut room.workspace,
-            graph,
             &expressed.made,
-            &starts,
-            table,
+            &origins,
             query.depart,
         )?;
         room.kept.put(expressed)?;
         earliest_of_each(alloc, &self.parts, &times)
     }
+
+    /// For each number in the table, in order, when it, or any number of its node, is reached first from these origins: by the
+    /// descents, if there are some and the times fit them, else by a search over the whole graph.
+    fn number_arrivals<L: RoadLabels>(
+        &self,
+        alloc: Global,
+        workspace: &mut Workspace,
+        machine: &Machine<L>,
+        origins: &[u32],
+        dep: Time,
+    ) -> Result<Vec<Option<Time>>, AllocError>
+        requires ready { AreDestinations self.now }
+        requires origins { All (λ v. v < length (nodes_of self.now.network.now)) origins.now }
+        requires early { dep < 2 ^ 64 }
+        ensures { IfOk result (λ times. AreNumberArrivals self.now (L.automaton machine.now.labels)
+            origins.now dep times.items) }
+    {
+        self.network.known();
+        let starts = starts_in(alloc, self.hierarchy, origins)?;
+        let (graph, table) = (&self.graph, &self.table);
+        if let Some(descents) = &self.descents {
+            if let Some(times) = descents.arrivals(alloc, machine, &starts, &table.nodes, dep)? {
+                return Ok(times);
+            }
+        }
+        search_arrivals(workspace, graph, machine, &starts, table, dep)
+    }
+}
+
+/// The descents of a hierarchy, if there is one, to these targets, if many of them are contracted: then a sweep down to all of them at
+/// once pays. To a few, a search that has marks for them ends sooner.
+fn descents_to<'a>(
+    alloc: Global,
+    network: &'a Network,
+    hierarchy: Option<&'a Hierarchy>,
+    targets: &[u32],
+) -> Result<Option<Descents<'a>>, AllocError>
+    requires { IfSome hierarchy (λ h. IsSound network.now h.now) }
+    ensures { IfOk result (λ made. IfSome made (DescendTo network.now
+        (option_map (λ h. h.now) hierarchy.entry) targets.now)) }
+{
+    match hierarchy {
+        Some(hierarchy) if has_many(hierarchy, targets) => {
+            Descents::new(alloc, network, hierarchy, targets)
+        }
+        _ => Ok(None),
+    }
+}
+
+/// Whether many of these nodes are contracted.
+fn has_many(hierarchy: &Hierarchy, nodes: &[u32]) -> bool {
+    nodes.iter().filter(|v| hierarchy.contracted(**v)).count() >= MANY
 }
 
 /// Lists the destinations of those queries that are there.

@@ -1,8 +1,9 @@
-use Rattle.plan_base.proofs.Common.{◌+◌, ◌∙◌, Bor, Option, None, length, ap, subst, option_map, get_or_default, length_push}
+use Rattle.plan_base.proofs.Common.{ℕ, List, ◌++◌, ◌+◌, ◌∙◌, Bor, Option, None, length, ap, sym, subst, option_map, get_or_default, length_push}
 use Rattle.hierarchy.specs.declared.hierarchy.Hierarchy.{Hierarchy}
+use Rattle.phase_graph.specs.{ends_in}
 use Rattle.journey.specs.{Query}
 use Rattle.planning.specs.{AddsDestination}
-use Rattle.planning.proofs.DestinationLemmas.{parts_more}
+use Rattle.planning.proofs.DestinationLemmas.{ends_more, parts_more}
 use Rattle.planning.proofs.destinations.listed.Goals as goal
 
 pub loop-query-preserved : goal.loop-query-preserved
@@ -16,5 +17,6 @@ loop-query-preserved c =
     let adds = subst (λ (q : Option Query). AddsDestination n h q old new) same c.in_ok-add.ensures in
     record {
       one_each = ap length adds.parts ∙ (length_push old.parts.items _ ∙ ap (λ i. i + 1) c.loop-query.invariant.one_each);
+      numbers_are = adds.numbers ∙ (ap (λ (ps : List ℕ). ps ++ ends_in h adds.copies) c.loop-query.invariant.numbers_are ∙ (sym (ends_more h old.targets.items adds.copies) ∙ ap (ends_in h) (sym adds.targets)));
       are = parts_more n h c.args.queries.now old new k c.loop-query.invariant.one_each c.loop-query.invariant.are adds;
     }

@@ -1,0 +1,4 @@
+pub mod FallLemmas
+pub mod DelayLemmas
+pub mod ListedLemmas
+pub mod NodeLemmas
