@@ -63,6 +63,7 @@ impl LineBlocks for BestBlocks<'_> {
 
 /// Reads the region of this name and the hierarchy, if one is named, and writes the block of each query line of the queries
 /// file, within the limits, as soon as that has been read whole; with a hierarchy the line `settled` follows.
+#[tactic(auto, using(crate::proofs::LentLemmas::lent_sound))]
 pub fn answer<F: Shelf, O: Sink, E: Sink>(
     ports: &mut Ports<F, O, E>,
     region: &str,

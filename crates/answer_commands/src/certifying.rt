@@ -23,6 +23,7 @@ use std::alloc::{AllocError, Global};
 
 /// Reads the region of this name, and the hierarchy, if one is named, and writes the certificate of a query line, or its
 /// block where the line is refused or passes the limits.
+#[tactic(auto, using(crate::proofs::LentLemmas::lent_sound))]
 pub fn certify<F: Shelf, O: Sink, E: Sink>(
     ports: &mut Ports<F, O, E>,
     region: &str,

@@ -88,6 +88,7 @@ pub fn verified(
 
 /// Reads the region of this name, the hierarchy, if one is named, and the certificate file, and writes that it is valid and
 /// the block of its line and result.
+#[tactic(auto, using(crate::proofs::LentLemmas::lent_sound))]
 pub fn verify<F: Shelf, O: Sink, E: Sink>(
     ports: &mut Ports<F, O, E>,
     region: &str,

@@ -53,7 +53,7 @@ module _ (caps : Caps) (files : Files) (old new : Scene KeeperMeaning) (tells : 
       → (common : Outcome) → IsBothOutcome caps old.shelf new.shelf region named common → Stays old.out new.out → IsDoneOrMemory common
   both_complete region named held common why same =
       reads caps files region named held (shown old.shelf old.out) (shown new.shelf new.out) common tells (record { shelf = quiet.shelf; out = quiet.out })
-      (both_fail caps old.shelf new.shelf new.shelf old.out new.out region named (λ n h. WritesText (λ text. Unit {0})) common why same)
+      (both_fail (λ n h. WritesText (λ text. Unit {0})) why same)
 
   report_completes : (region : List ℕ) (named : Option (List ℕ)) (IsText : NetworkLists → Option HierarchyLists → List ℕ → BookOutcome → Type 0) → AreHeld caps files region named
       → (outcome : BookOutcome) → OnBoth caps region named (λ n h. BookWrites (IsText n h)) old new outcome → IsDoneOrAbsent outcome
@@ -65,14 +65,13 @@ module _ (caps : Caps) (files : Files) (old new : Scene KeeperMeaning) (tells : 
     region_completes : (common : Outcome) → IsBothOutcome caps old.shelf new.shelf region named common → Stays old.out new.out → IsDoneOrMemory common
     region_completes common why same =
         verify_completes caps files region certificate named held (shown old.shelf old.out) (shown new.shelf new.out) common tells (record { shelf = quiet.shelf; out = quiet.out })
-        (both_fail caps old.shelf new.shelf new.shelf old.out new.out region named (λ n h. SaysVerified (best_certificates n h) certificate) common why same)
+        (both_fail (λ n h. SaysVerified (best_certificates n h) certificate) why same)
 
     certificate_completes : (n : NetworkLists) (h : Option HierarchyLists) (mid : ShelfMeaning) → HasBoth caps old.shelf mid region named n h
         → (common : Outcome) → IsCertificateOutcome n h mid new.shelf certificate common → Stays old.out new.out → IsDoneOrMemory common
     certificate_completes n h mid both common why same =
         verify_completes caps files region certificate named held (shown old.shelf old.out) (shown new.shelf new.out) common tells (record { shelf = quiet.shelf; out = quiet.out })
-        (on_both caps old.shelf mid new.shelf old.out new.out region named (λ n h. SaysVerified (best_certificates n h) certificate) n h both common
-        (unverified n h mid common same why))
+        (on_both (λ n h. SaysVerified (best_certificates n h) certificate) both (unverified n h mid common same why))
       where
         unverified : (n : NetworkLists) (h : Option HierarchyLists) (mid : ShelfMeaning) (common : Outcome) → Stays old.out new.out → IsCertificateOutcome n h mid new.shelf certificate common
             → SaysVerified (best_certificates n h) certificate (shown mid old.out) (shown new.shelf new.out) common

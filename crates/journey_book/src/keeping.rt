@@ -23,6 +23,7 @@ use std::alloc::Global;
 
 /// Reads a region, the hierarchy, if one is named, and a certificate, and keeps the certificate's bytes under the name,
 /// if it is valid.
+#[tactic(auto, using(answer_commands::proofs::LentLemmas::lent_sound))]
 pub(crate) fn keep<F: Shelf, K: Keeper, O: Sink, E: Sink>(
     ports: &mut Ports<F, O, E>,
     what: Keeping<'_>,

@@ -74,6 +74,7 @@ pub(crate) fn show<K: Keeper, O: Sink>(
 }
 
 /// Reads a region and the hierarchy, if one is named, and writes the report that is asked for.
+#[tactic(auto, using(answer_commands::proofs::LentLemmas::lent_sound))]
 pub(crate) fn report<F: Shelf, K: Keeper, O: Sink, E: Sink>(
     ports: &mut Ports<F, O, E>,
     asked: ReportAsked<'_>,

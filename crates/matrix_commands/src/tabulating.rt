@@ -32,6 +32,7 @@ pub struct TableFiles<'a> {
 
 /// Reads the region of a table, the hierarchy, if one is named, and all destinations; and writes the rows of each
 /// origin as soon as its line has been read whole.
+#[tactic(auto, using(answer_commands::proofs::LentLemmas::lent_sound))]
 pub fn matrix<F: Shelf, O: Sink, E: Sink>(
     ports: &mut Ports<F, O, E>,
     files: &TableFiles<'_>,

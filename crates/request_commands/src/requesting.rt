@@ -20,6 +20,7 @@ use run_steps::{FileRole, Limits, Outcome, Ports, answer_file};
 
 /// Reads the region of this name and the hierarchy, if one is named, and writes the reply within the limits to each line of
 /// the requests file as soon as that has been read whole.
+#[tactic(auto, using(answer_commands::proofs::LentLemmas::lent_sound))]
 pub fn requests<F: Shelf, O: Sink, E: Sink>(
     ports: &mut Ports<F, O, E>,
     region: &str,

@@ -1,23 +1,8 @@
-use Rattle.plan_base.proofs.Common.{List, ℕ, Bor, err_from_is_err_and, option_map}
-use Rattle.plan_base.proofs.MoreWritten.{stays_so}
-use Rattle.answer_commands.proofs.{BothLemmas.both_fail, BothLemmas.on_both, LentLemmas.lent_sound}
+use Rattle.answer_commands.proofs.{BothLemmas.both_end, BothLemmas.on_both}
 use Rattle.answer_commands.proofs.verifying.verify.Goals as goal
 
-pub verify_over-requires : goal.verify_over-requires
-verify_over-requires g c = lent_sound c.in_ok-network.network c.as_ref.result c.in_ok-network.hierarchy c.as_ref.ensures.value c.in_ok-network.ensures.sound
-
 pub returns-in_err-network : goal.returns-in_err-network
-returns-in_err-network g c =
-    let p = err_from_is_err_and c.from_residual.result c.from_residual.ensures.1 in
-    let out = g.O.Sink.meaning c.args.ports.now.out in
-    let new = g.F.Shelf.meaning c.read_both.new.shelf in
-    rw (p.1, p.2)
-    (both_fail c.args.caps.now (g.F.Shelf.meaning c.args.ports.now.shelf) new new out out c.args.region.now (option_map (λ (x : Bor (List ℕ)). x.now) c.args.hierarchy) _ _ c.in_err-network.ensures.err (stays_so out))
+returns-in_err-network g c = both_end _ _ c.from_residual.ensures.1 c.in_err-network.ensures.err
 
 pub returns : goal.returns
-returns g c =
-    let mid = g.F.Shelf.meaning c.read_both.new.shelf in
-    let new = g.F.Shelf.meaning c.verify_over.new.ports.shelf in
-    on_both c.args.caps.now (g.F.Shelf.meaning c.args.ports.now.shelf) mid new (g.O.Sink.meaning c.args.ports.now.out) (g.O.Sink.meaning c.verify_over.new.ports.out) c.args.region.now
-    (option_map (λ (x : Bor (List ℕ)). x.now) c.args.hierarchy) _ c.in_ok-network.network c.in_ok-network.hierarchy c.in_ok-network.ensures.ok _
-    (rw c.as_ref.ensures.value at c.verify_over.ensures)
+returns g c = on_both _ c.in_ok-network.ensures.ok (rw c.as_ref.ensures.value at c.verify_over.ensures)
