@@ -7,7 +7,7 @@ pub mod Trail
 pub mod Queued
 pub mod Waiting
 pub use Exploring.{IsNoLater, reached_by, IsTakenAs, Offers, IsGiven, IsGivenIn, IsReachedIfWanted, way_by, IsByLeg, IsByLegs, IsByLegsIn, LegIsReached, IsByWay, IsByWays, WayIsReached, AreGivenReached, IsSuccessor, ArcIsReached, IsStartAt, IsStartAmong, StartIsReached}
-pub use MoveTables.{HasLettersBelow, HasLeavingBelow, target_by, targets_below, AreMovesBelow, HasLeaving, AreMoves, AreTargets, AreTargetsWith}
+pub use MoveTables.{HasLettersBelow, HasLeavingBelow, target_by, targets_below, AreMovesBelow, HasLetters, HasLeaving, AreMoves, AreTargets, AreTargetsWith}
 pub use Noting.{time_by, time_of, AreReached, earlier, IsNoted, IsEndNoted, IsNotedBy, IsEndNotedBy, IsArrivalBy, AreNoted, AreAllTimes}
 pub use Places.{IsPlaced, ArePlaces}
 pub use Searching.{IsFromStart, IsBehind, IsTracedTo, IsTraced, AreTraced, IsDone, IsSearching, IsScanning, IsEndAt, IsNoEndAt, IsOfWay, IsEnd, until_of, GoesTo, end_arrival, IsSearched, EndsWith, IsAnswered, label_of_row, HasMoreBefore}

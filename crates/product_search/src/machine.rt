@@ -30,7 +30,7 @@ impl<L: Labels> Machine<L> {
     ghost use Rattle.product_search.specs.inside.MoveTables.{AreTargets, HasLeaving, HasLetters};
 
     /// The letters of the moves that leave a state, as bits.
-    pub(crate) fn letters_of(&self, state: u32) -> u32
+    pub fn letters_of(&self, state: u32) -> u32
         requires { state < (L.automaton self.now.labels).states }
         ensures { HasLetters (L.automaton self.now.labels) state result }
     {
@@ -38,7 +38,7 @@ impl<L: Labels> Machine<L> {
     }
 
     /// The letters of the moves that lead from a state to another one, as bits.
-    pub(crate) fn leaving(&self, state: u32) -> u32
+    pub fn leaving(&self, state: u32) -> u32
         requires { state < (L.automaton self.now.labels).states }
         ensures { HasLeaving (L.automaton self.now.labels) state result }
     {
@@ -46,7 +46,7 @@ impl<L: Labels> Machine<L> {
     }
 
     /// The states that the moves by a letter lead to from a state.
-    pub(crate) fn targets_of(&self, state: u32, letter: u8) -> &[u32]
+    pub fn targets_of(&self, state: u32, letter: u8) -> &[u32]
         requires state { state < (L.automaton self.now.labels).states }
         requires letter { IsLetter letter }
         ensures { AreTargets (L.automaton self.now.labels) state letter result.now }
