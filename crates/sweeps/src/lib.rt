@@ -2,13 +2,14 @@
 #![tactic(auto)]
 
 mod laws;
-mod places;
+pub mod places;
 pub mod rows;
 pub mod sheet;
 pub mod slope;
 mod sweeping;
 
 pub use laws::sheets_are_whole;
+pub use places::{Places, place_table};
 pub use rows::Rows;
 pub use sheet::Sheet;
 pub use slope::Slope;

@@ -1,4 +1,4 @@
-//! Where the nodes of a sheet stand in it, and the rows of a place.
+//! Where nodes stand in a list of them, such as a sheet's, and the rows of a place.
 
 ghost use Rattle.std.specs.Prelude.{◌<◌, ◌^◌, ℕ, All, IfOk, IfSome, IfNone, IsTrue, length};
 ghost use Rattle.std.proofs.Props.{props};
@@ -16,9 +16,9 @@ const NOWHERE: u32 = u32::MAX;
 /// Nodes have lower numbers.
 const PAST_NODES: u32 = 1 << 24;
 
-/// The nodes of a sheet, and for each number of a node its place among them, if it has one.
+/// Nodes, such as those of a sheet, and for each number of a node its place among them, if it has one.
 #[derive(Clone, Copy)]
-pub(crate) struct Places<'a> {
+pub struct Places<'a> {
     pub nodes: &'a [u32],
     pub of: &'a [u32],
     ghost are: { ArePlacesOf nodes.now (length nodes.now) of.now } by { Prim.hlevel props },
@@ -26,7 +26,7 @@ pub(crate) struct Places<'a> {
 
 /// For each number of a node its place among these, if it has one. None where one of them stands twice or is no number of a node.
 /// That there are 2^32 - 1 or more counts as want of memory.
-pub(crate) fn place_table(alloc: Global, nodes: &[u32]) -> Result<Option<Vec<u32>>, AllocError>
+pub fn place_table(alloc: Global, nodes: &[u32]) -> Result<Option<Vec<u32>>, AllocError>
     ensures some { IfOk result (λ made. IfSome made (λ table. ArePlacesOf nodes.now (length nodes.now)
         table.items)) }
     ensures none { IfOk result (λ made. IfNone made ((i : ℕ) × IsNoNewNode nodes.now i)) }
@@ -65,7 +65,7 @@ impl Places<'_> {
 
     /// The place of a node, if it is one of these.
     #[inline(always)]
-    pub(crate) fn place_of(&self, node: u32) -> Option<u32>
+    pub fn place_of(&self, node: u32) -> Option<u32>
         ensures some { IfSome result (λ place. (place < length self.now.nodes.now)
             × (slice_index self.now.nodes.now place ≡ node)) }
         ensures none { IfNone result (Contains self.now.nodes.now node → ⊥) }

@@ -21,7 +21,7 @@ pub struct Sheet {
 }
 
 impl Sheet {
-    ghost use Rattle.std.specs.Prelude.{◌≡◌, IfOk, IfSome, IfNone};
+    ghost use Rattle.std.specs.Prelude.{◌≡◌, ◌<◌, Contains, IfOk, IfSome, IfNone, length, slice_index};
     ghost use Rattle.sweeps.specs.Layers.{IsSheetOf, HasNoSheet};
 
     /// The sheet of these nodes of a hierarchy, which are to be listed lowest first. None where one of them stands twice or is no
@@ -48,5 +48,14 @@ impl Sheet {
         ensures { result.now ≡ self.now.slope.nodes.items }
     {
         self.slope.nodes()
+    }
+
+    /// The place of a node, if it is one of these.
+    pub fn place_of(&self, node: u32) -> Option<u32>
+        ensures some { IfSome result (λ place. (place < length self.now.slope.nodes.items)
+            × (slice_index self.now.slope.nodes.items place ≡ node)) }
+        ensures none { IfNone result (Contains self.now.slope.nodes.items node → ⊥) }
+    {
+        self.slope.place_of(node)
     }
 }
