@@ -62,7 +62,7 @@ module _ (h : HierarchyLists) (nodes : List ℕ) (s : Sheet) (rules : IsHierarch
 
   -- ---- legs as entries
 
-  between_entry : (i j w : ℕ) → LeadsBetween s i j w → HasEntry h.entries (node i) (node j) w
+  pub between_entry : (i j w : ℕ) → LeadsBetween s i j w → HasEntry h.entries (node i) (node j) w
   between_entry i j w (inl (lt, leg)) =
       leg_entry h rules is.short (node i) (node j) w
       (subst (λ (legs : List Leg). Contains legs (leg_by (number_before (node j)) w)) (is.ups i (omega (arith, many))) (Contains-map (outward nodes) (row_at s.ups i) (leg_by j w) leg))
@@ -79,7 +79,7 @@ module _ (h : HierarchyLists) (nodes : List ℕ) (s : Sheet) (rules : IsHierarch
   -- ---- entries as legs
 
   module _ (i j w : ℕ) (low : i < length nodes) (high : j < length nodes) (entry : HasEntry h.entries (node i) (node j) w) where
-    entry_up : IsAbove h.order (node j) (node i) → LeadsUp s i j w
+    pub entry_up : IsAbove h.order (node j) (node i) → LeadsUp s i j w
     entry_up above =
         let there = entry_leg h rules is.short (node i) (node j) w entry above in
         let found = Contains-from_map (outward nodes) (row_at s.ups i) (leg_by (number_before (node j)) w)
@@ -88,7 +88,7 @@ module _ (h : HierarchyLists) (nodes : List ℕ) (s : Sheet) (rules : IsHierarch
         let place : found.0.to ≡ j = one_place found.0.to j (up_inside i found.0 low found.1) high (omega (arith, twice)) in
         (omega (arith, many), subst (λ k. Contains (row_at s.ups i) (leg_by k w)) place (subst (λ m. Contains (row_at s.ups i) (leg_by found.0.to m)) (ap (λ (l : Leg). l.ms) found.2) found.1))
 
-    entry_down : IsAbove h.order (node i) (node j) → LeadsDown s.slope i j w
+    pub entry_down : IsAbove h.order (node i) (node j) → LeadsDown s.slope i j w
     entry_down above =
         let there = entry_fall h (node i) (node j) w entry above in
         let found = Contains-from_map (origin nodes) (row_at s.slope.downs j) (hop_by (node i) w) (subst (λ (hops : List Hop). Contains hops (hop_by (node i) w)) (sym (is.slope.downs j high)) there) in
