@@ -1,0 +1,7 @@
+use Rattle.plan_base.proofs.Common.{◌≡◌, ◌+◌, ◌-◌, ◌^◌, ◌<◌, ◌≤◌, ℕ, List, length, Some, arith}
+use Rattle.core_file.specs.{IsPlacedBy}
+use Rattle.core_file.proofs.FileLaws.{refused_within, placed_more, first_refused, core_refused}
+use Rattle.core_file.proofs.files.both_of.Goals as goal
+
+pub behind-requires : goal.behind-requires
+behind-requires c = placed_more (length c.args.first.now) _ c.in-Err.fault (omega (arith, c.requires)) (refused_within c.args.first.now c.in-Err.fault c.in-Err.ensures.none)

@@ -1,0 +1,6 @@
+//! Files that have a hierarchy alone, or one and behind it a hierarchy of its core, with exactly one spelling.
+#![tactic(auto)]
+
+pub mod files;
+
+pub use files::{FileLists, decode_file, encode_both};
