@@ -1,0 +1,111 @@
+-- Arcs before any descent: the letters of those at road nodes, and the steady ones as entries.
+use Rattle.plan_base.proofs.Common.{◌≡◌, ℕ, ◌+◌, ◌<◌, ◌≤◌, ◌⊎◌, inl, inr, ◌∙◌, ◌||◌, ◌&&◌, nat_lt, Bool, true, false, List, [], length, get_or, Option, Some, None, refl, sym, ap, ap₂, subst, subst₂, arith, slice_get-get_or, get_or_default, ltb-true, eqb-true}
+use Rattle.search_laws.specs.{GraphMeaning, HasArc, GraphArc}
+use Rattle.mode_network.specs.{NetworkLists.NetworkLists, letter_at, IsNetwork, Step, Wait, Link, Stand, Ride, IsStep, declared.steps.Step.TheVariants.Road}
+use Rattle.mode_network.proofs.{RuleLemmas.both, RuleLemmas.letter_is_road, RuleLemmas.some_is}
+use Rattle.hierarchy.specs.{Entry, HierarchyLists, height_in, HasEntry, IsHierarchy, entry_at, is_core, leads_up, no_entry}
+use Rattle.hierarchy.proofs.RiseLemmas.{are_rise_places}
+use Rattle.phase_graph.specs.{PhaseMove, rest, rise, fall, cross, stand, IsCrossing, IsPhaseMove, IsRise, IsPhaseGraph, Up, arc_of, is_down, legs_at, node_of, phase_arc, phase_arrival, phase_meaning, phase_node, rises_at}
+use Rattle.phase_graph.specs.{declared.in_use.GraphInUse.GraphInUse, declared.in_use.GraphInUse.TheVariants.Plain, declared.in_use.GraphInUse.TheVariants.Phases}
+use Rattle.phase_graph.specs.InUseGraph.{hierarchy_in, meaning_in_use, network_in, steady_in_use}
+use Rattle.phase_graph.proofs.{GraphLemmas.half, GraphLemmas.phase_of, GraphMoves.is_phase_graph, LegLemmas.legs_few, PlaceLemmas.up_known}
+use Rattle.rounds.specs.Rounds.{Rounds, AreRounds}
+
+-- the graph that rounds go over is one of phases for no targets
+pub phases_of : (r : Rounds) → AreRounds r → IsNetwork r.network.now → IsHierarchy r.hierarchy.now → IsPhaseGraph r.network.now r.hierarchy.now [] (meaning_in_use r.graph)
+phases_of r is network rules =
+    let in_use = is.in_use in
+    subst (IsPhaseGraph r.network.now r.hierarchy.now []) (sym in_use.is) (is_phase_graph r.network.now r.hierarchy.now [] network rules is.sound in_use.table in_use.keeps in_use.of in_use.marks in_use.are)
+
+-- ---- letters
+
+-- a letter is this one, or there is none
+abbrev pub IsLetterOrNone : ℕ → Option ℕ → Type 0
+IsLetterOrNone mode letter = (letter ≡ Some mode) ⊎ (letter ≡ None)
+
+module _ (n : NetworkLists) (network : IsNetwork n) (v mode : ℕ) (letter : letter_at n.roads v ≡ Some mode) where
+  -- no ride boards at a road node
+  step_letter : (step : Step) (t w u : ℕ) (of : Option ℕ) → IsCrossing step → IsStep n v t step w u of → IsLetterOrNone mode of
+  step_letter (Wait until) t w u of crossing is = absurd crossing
+  step_letter (Road to) t w u of crossing is = absurd crossing
+  step_letter (Link to) t w u of crossing (ms, leads, ew, eu, none) = inr none
+  step_letter Stand t w u of crossing is = absurd crossing
+  step_letter (Ride trip day board alight) t w u of crossing (run, on, off, ride, from, later, ew, eu, el) = absurd (let road = letter_is_road n network v mode letter in omega (arith, from, road.0))
+
+  -- a move from a road node has the letter of that, or none
+  pub move_letter : (h : HierarchyLists) (targets : List ℕ) (down : Bool) (t : ℕ) (move : PhaseMove) (w : ℕ) (end : Bool) (u : ℕ) (of : Option ℕ) → IsPhaseMove n h targets v down t move w end u of
+      → IsLetterOrNone mode of
+  move_letter h targets down t (rest until) w end u of (later, ew, ed, eu, el) = inr el
+  move_letter h targets down t (rise hop) w end u of (before, entry, up, ew, ed, eu, el) = inl (el ∙ letter)
+  move_letter h targets down t (fall hop) w end u of (entry, above, marked, ew, ed, eu, el) = inl (el ∙ letter)
+  move_letter h targets down t (cross step) w end u of (before, core, crossing, taken, ed) = step_letter step t w u of crossing taken
+  move_letter h targets down t stand w end u of (own, is, ew, ed, eu, el) = inl (el ∙ sym is ∙ letter)
+
+  -- so has an arc
+  pub arc_letter : (h : HierarchyLists) (targets : List ℕ) (g : GraphMeaning) → IsPhaseGraph n h targets g → (down : Bool) (i t u : ℕ) → HasArc g (phase_node v down) i → g.arrive (phase_node v down) i t ≡ Some u
+      → IsLetterOrNone mode (g.arc_at (phase_node v down) i).letter
+  arc_letter h targets g is down i t u has arrives =
+      let m = is.move_of v down t i u has arrives in
+      move_letter h targets down t m.move m.to m.down2 u (g.arc_at (phase_node v down) i).letter m.is
+
+-- ---- steady arcs
+
+-- an entry leads up from v or along the core, and so does the arc at place i of v, before any descent, taken at t: it arrives at u
+pub record IsByRise (n : NetworkLists) (h : HierarchyLists) (g : GraphMeaning) (v i t u : ℕ) : Type 0 where
+  pub to : ℕ
+  pub weight : ℕ
+  pub entry : HasEntry h.entries v to weight
+  pub rises : IsRise h v to
+  pub leads : (g.arc_at (phase_node v false) i).to ≡ phase_node to false
+  pub letter : (g.arc_at (phase_node v false) i).letter ≡ letter_at n.roads v
+  pub at : u ≡ t + weight
+
+-- a test for rises
+leads_up_rises : (h : HierarchyLists) (u v : ℕ) → leads_up h.order u v ≡ true → IsRise h u v
+leads_up_rises h u v up = by_test (nat_lt (height_in h.order u) (height_in h.order v)) refl
+  where
+    by_test : (b : Bool) → nat_lt (height_in h.order u) (height_in h.order v) ≡ b → IsRise h u v
+    by_test true e = inl (ltb-true _ _ e)
+    by_test false e =
+        let cores = both (is_core h.order u) (is_core h.order v) (sym (ap (λ b. b || (is_core h.order u && is_core h.order v)) e) ∙ up) in
+        inr (eqb-true _ _ cores.0, eqb-true _ _ cores.1)
+
+module _ (n : NetworkLists) (h : HierarchyLists) (rules : IsHierarchy h) (v i t u : ℕ) where
+  by_rise : (table : _) (marks : List Bool) → i < length (rises_at h v false) → (phase_meaning n table h marks).arrive (phase_node v false) i t ≡ Some u → IsByRise n h (phase_meaning n table h marks) v i t u
+  by_rise table marks lt arrives =
+      let g = phase_meaning n table h marks in
+      let place = get_or (rises_at h v false) i 0 in
+      let are = are_rise_places h rules v in
+      let within : place < length h.entries = are.within i 0 lt in
+      let e = entry_at h.entries place in
+      let rises = are.each place e (i, lt, sym (get_or_default (rises_at h v false) i 0 place lt)) (slice_get-get_or h.entries place no_entry within) in
+      let own : Entry = record { from = v; to = e.to; weight = e.weight; via = e.via } in
+      let up : phase_arc n h v false i ≡ Up place = up_known n h v false i lt in
+      let arc : g.arc_at (phase_node v false) i ≡ arc_of n table h v false (Up place) =
+      ap₂ (λ x d. arc_of n table h x d (phase_arc n h x d i)) (half v false) (phase_of v false) ∙ ap (arc_of n table h v false) up in
+      let arrival : g.arrive (phase_node v false) i t ≡ Some (t + e.weight) =
+      ap₂ (λ x d. phase_arrival n table h marks x t (phase_arc n h x d i)) (half v false) (phase_of v false) ∙ ap (phase_arrival n table h marks v t) up in
+      record {
+        to = e.to;
+        weight = e.weight;
+        entry = (e.via, (place, within, sym (get_or_default h.entries place no_entry own within) ∙ ap (λ x. record { from = x; to = e.to; weight = e.weight; via = e.via }) rises.begins));
+        rises = leads_up_rises h v e.to (subst (λ x. leads_up h.order x e.to ≡ true) rises.begins rises.leads);
+        leads = ap (λ (a : GraphArc). a.to) arc;
+        letter = ap (λ (a : GraphArc). a.letter) arc;
+        at = some_is (sym arrives ∙ arrival);
+      }
+
+-- each steady arc of the graph in use leads so
+pub steady_arc : (graph : GraphInUse) (n : NetworkLists) (h : HierarchyLists) → network_in graph ≡ n → hierarchy_in graph ≡ Some h → IsHierarchy h → (v i t u : ℕ) → i < steady_in_use graph (phase_node v false)
+    → (meaning_in_use graph).arrive (phase_node v false) i t ≡ Some u → IsByRise n h (meaning_in_use graph) v i t u
+steady_arc (Plain p) n h network hierarchy rules v i t u lt arrives = cc
+steady_arc (Phases p) n h network hierarchy rules v i t u lt arrives =
+    let own = p.hierarchy.now in
+    let same : own ≡ h = some_is hierarchy in
+    let inside : i < length (rises_at own v false) = omega (arith, lt, ap₂ (λ x d. length (legs_at own x d)) (half v false) (phase_of v false), legs_few own v false) in
+    subst₂ (λ x y. IsByRise x y (meaning_in_use (Phases p)) v i t u) network same (by_rise p.plain.network.now own (subst IsHierarchy (sym same) rules) v i t u p.plain.timetable.now _ inside arrives)
+
+-- steady arcs are arcs
+pub steady_within : (graph : GraphInUse) (h : HierarchyLists) → hierarchy_in graph ≡ Some h → (p : ℕ) → steady_in_use graph p ≤ (meaning_in_use graph).arcs p
+steady_within (Plain it) h hierarchy p = cc
+steady_within (Phases it) h hierarchy p = omega (arith, legs_few it.hierarchy.now (node_of p) (is_down p))

@@ -1,0 +1,15 @@
+pub mod ArcLemmas
+pub mod TurnLemmas
+pub mod BeginLemmas
+pub mod MoveLemmas
+pub mod NoteLemmas
+pub mod RowLemmas
+pub mod WalkLemmas
+pub mod LabelLemmas
+pub mod ClosureLemmas
+pub mod ListLemmas
+pub mod CrossingLemmas
+pub mod LayerLemmas
+pub mod VisitLemmas
+pub mod ReachLemmas
+pub mod FirstLemmas

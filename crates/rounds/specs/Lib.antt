@@ -1,0 +1,9 @@
+pub mod Layers
+pub mod Crossings
+pub mod Rounds
+pub mod Reached
+pub mod inside
+pub use Layers.{CoreLeads, IsCoreIn, HasCoreHops, IsCoreLayer, IsGate, AreGates, Gate, CoreLayer}
+pub use Crossings.{AreStanding, IsQuiet}
+pub use Rounds.{AreRounds, AreStarts}
+pub use Reached.{AreReachedLabels}
