@@ -61,7 +61,7 @@ pub record IsByRise (n : NetworkLists) (h : HierarchyLists) (g : GraphMeaning) (
   pub at : u ≡ t + weight
 
 -- a test for rises
-leads_up_rises : (h : HierarchyLists) (u v : ℕ) → leads_up h.order u v ≡ true → IsRise h u v
+pub leads_up_rises : (h : HierarchyLists) (u v : ℕ) → leads_up h.order u v ≡ true → IsRise h u v
 leads_up_rises h u v up = by_test (nat_lt (height_in h.order u) (height_in h.order v)) refl
   where
     by_test : (b : Bool) → nat_lt (height_in h.order u) (height_in h.order v) ≡ b → IsRise h u v

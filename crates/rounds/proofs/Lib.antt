@@ -1,4 +1,5 @@
 pub mod ArcLemmas
+pub mod ClimbLemmas
 pub mod TurnLemmas
 pub mod BeginLemmas
 pub mod MoveLemmas

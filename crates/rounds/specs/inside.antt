@@ -1,6 +1,7 @@
 -- What single steps of rounds do; types and the clauses of private calls name it.
 pub mod Rows
 pub mod Asking
+pub mod Climbs
 pub mod Firsts
 pub mod Walks
 pub mod Visits
@@ -9,6 +10,7 @@ pub mod Listing
 pub mod Notes
 pub use Rows.{row_of, cell, never, HaveShape, AreLowered, IsRowLowered}
 pub use Asking.{Asked, AskedMeaning, asked_of, Reaches, IsLayerOf}
+pub use Climbs.{ClimbsTo, HasClimb, Climb, IsClimbedBy, AreClimbs, Rung, nodes_of_rungs, AreClimbDelays, IsClimbedBehind, IsPassed, IsClimbedFrom, AreClimbedAll, AreClimbsOf}
 pub use Firsts.{AreFirsts, IsStartLabel, AddsStarts}
 pub use Walks.{Turn, IsTurn, AreTurns, node_at, IsWalkReached, AreWalksReached, IsWalkClosed, AreCrossingsReached, IsFed, IsReturned, IsWalked, AreWalkedBelow, AreWalksClosed, IsWalkOf, IsTakenIn, IsFedBy, IsGivenBack}
 pub use Visits.{crossing_node, IsCrossedBy, IsVisited, AreVisited, AreGivenCrossed, WayReaches, WayIsCrossed, AreCrossedOn, AreVisiting}

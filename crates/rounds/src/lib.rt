@@ -4,6 +4,7 @@
 
 mod asked;
 mod beginning;
+pub mod climb;
 pub mod core_layer;
 mod delays;
 mod firsts;
@@ -13,5 +14,6 @@ mod turning;
 mod visiting;
 mod walking;
 
+pub use climb::{Climb, climbs_from};
 pub use core_layer::{CoreLayer, Gate};
 pub use rounds::Rounds;
