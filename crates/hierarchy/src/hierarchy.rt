@@ -58,6 +58,13 @@ impl Hierarchy {
         self.lists.known();
     }
 
+    /// Its lists alone.
+    pub fn into_lists(self) -> Lists
+        ensures { result ≡ self }
+    {
+        self.lists
+    }
+
     /// The contracted nodes, lowest first.
     pub fn order(&self) -> &[u32]
         ensures { result.now ≡ self.now.order }
