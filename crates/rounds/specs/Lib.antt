@@ -5,5 +5,5 @@ pub mod Reached
 pub mod inside
 pub use Layers.{CoreLeads, IsCoreIn, HasCoreHops, IsCoreLayer, IsGate, AreGates, Gate, CoreLayer}
 pub use Crossings.{AreStanding, IsQuiet}
-pub use Rounds.{AreRounds, AreStarts}
+pub use Rounds.{AreRounds, AreStartsIn, AreStarts}
 pub use Reached.{AreReachedLabels}

@@ -1,7 +1,7 @@
 -- What rounds are made of.
 use Rattle.std.specs.Prelude.{◌≡◌, ℕ, ◌<◌, ◌≤◌, true, false, List, [], length, All, Contains, Some, slice_get}
-use Rattle.mode_network.specs.{nodes_of}
-use Rattle.hierarchy.specs.{IsCore, IsSound, has_legs}
+use Rattle.mode_network.specs.{NetworkLists.NetworkLists, nodes_of}
+use Rattle.hierarchy.specs.{HierarchyLists, IsCore, IsSound, has_legs}
 use Rattle.phase_graph.specs.{phase_node, IsInUse, starts_in, meaning_in_use}
 use Rattle.phase_graph.specs.InUseGraph.{steady_in_use, network_in, hierarchy_in}
 use Rattle.rounds.specs.{Layers.CoreLeads, Layers.IsCoreLayer, Layers.AreGates, Layers.CoreLayer, Crossings.IsQuiet}
@@ -23,7 +23,10 @@ pub record AreRounds (r : Rounds) : Type 0 where
       → IsCoreLayer r.network.now r.hierarchy.now letter layer.sheet × AreGates layer.sheet.slope.nodes.items r.crossings.items layer.gates.items
 
 -- these are the numbers of some nodes of the network before any descent
-pub record AreStarts (r : Rounds) (starts : List ℕ) : Type 0 where
+pub record AreStartsIn (n : NetworkLists) (h : HierarchyLists) (starts : List ℕ) : Type 0 where
   pub origins : List ℕ
-  pub are : starts ≡ starts_in (Some r.hierarchy.now) origins
-  pub within : All (λ v. v < length (nodes_of r.network.now)) origins
+  pub are : starts ≡ starts_in (Some h) origins
+  pub within : All (λ v. v < length (nodes_of n)) origins
+
+abbrev pub AreStarts : Rounds → List ℕ → Type 0
+AreStarts r = AreStartsIn r.network.now r.hierarchy.now
