@@ -1,12 +1,13 @@
 -- The core of a sound hierarchy breaks no rule of a network but how many arcs there may be.
-use Rattle.plan_base.proofs.Common.{[], ℕ, ◌++◌, ◌+◌, ◌<◌, ◌^◌, ◌∙◌, ◌∷◌, ◌≡◌, ◌≤◌, All, All-contains, All-contains_itself, All-filter, All-map, All-weaker, AllPairs-filter, ap, ap₂, arith, Bool, cases_lt, Contains, eq-eqb, false, false≢true, filter, get_or, get_or-map, get_or_append_left, get_or_from_slice_get, inl, inr, is_some, le-ltb, length, length-append, length-map, Less, List, ltb-false, ltb-true, nat_eq, nat_lt, ne_eqb, None, not, Option, option_and_then, Ordering, position, position-Some, refl, slice_get, slice_get_cases, Some, subst, suc, sym, take, take_more, true}
+use Rattle.plan_base.proofs.Common.{[], ℕ, ◌++◌, ◌+◌, ◌<◌, ◌^◌, ◌∙◌, ◌∷◌, ◌≡◌, ◌≤◌, All, All-contains, All-contains_itself, All-filter, All-map, All-weaker, AllPairs-filter, ap, ap₂, arith, Bool, cases_lt, cond, Contains, eq-eqb, false, false≢true, filter, get_or, get_or-map, get_or_append_left, get_or_from_slice_get, inl, inr, is_some, le-ltb, length, length-append, length-map, Less, List, ltb-false, ltb-true, nat_eq, nat_lt, ne_eqb, None, not, Option, option_and_then, Ordering, position, position-Some, refl, slice_get, slice_get_cases, Some, subst, suc, sym, take, take_more, true, zero}
 use Rattle.plan_base.specs.{Caps, Mode}
 use Rattle.service_days.specs.DaysMeaning.{DaysMeaning}
 use Rattle.mode_network.specs.{Arc, Node, NodeKey, Road, Stop, Switch, NetFault, OutOfOrder, BadEnd, Table, TooMany, OutOfMemory, IsFaultOf, nodes_of, mode_of, IsRoad, NetworkLists.NetworkLists, Leads, mode_at, arc_cmp, node_cmp, first_unsorted, first_fault, joins_modes, AreParts, IsAscending, IsNetwork}
 use Rattle.mode_network.proofs.RuleLemmas.{mode_inside, mode_is_same, nodes_hold_roads}
 use Rattle.hierarchy.specs.{Entry, Hop, AreHops, total, HierarchyLists, height_in, is_contracted, is_core, IsHierarchy, IsSound, FitsLayer, entry_cmp, no_entry}
-use Rattle.hierarchy.proofs.{HeightLemmas.height_most, RoadLemmas.roads_under}
-use Rattle.cores.specs.Cores.{core_arc, core_arcs, is_core_entry, HasNoNetwork, AreRefused}
+use Rattle.hierarchy.proofs.{HeightLemmas.height_most, PlaceLemmas.Contains-map, RoadLemmas.roads_under}
+use Rattle.cores.specs.Cores.{core_arc, core_arcs, is_core_entry, HasNoNetwork}
+use Rattle.cores.specs.inside.Parts.{AreRefused}
 
 -- a node is core where it is not contracted
 pub core_test : (order : List ℕ) (v : ℕ) → not (is_contracted order v) ≡ is_core order v
@@ -115,6 +116,24 @@ module _ (n : NetworkLists) (h : HierarchyLists) (network : IsNetwork n) (rules 
   -- parts are these, if each list is
   pub made_parts : (p : NetworkLists) → p.roads ≡ n.roads → p.stop_names ≡ [] → p.stops ≡ [] → p.switches ≡ [] → p.arcs ≡ core_arcs h → p.links ≡ [] → p.trips ≡ [] → p ≡ core_parts p.days
   made_parts p roads names stops switches arcs links trips = rw (roads, names, stops, switches, arcs, links, trips) refl
+
+-- what is in a list and passes a test is among those that do
+pub Contains-filter : {X : Type 0} (p : X → Bool) (xs : List X) (x : X) → Contains xs x → p x ≡ true → Contains (filter p xs) x
+Contains-filter p [] x (k, lt, at) passes = absurd (omega arith)
+Contains-filter p (y ∷ xs) x (zero, lt, at) passes = let first : p y ≡ true = ap p at ∙ passes in rw first (0, omega arith, at)
+Contains-filter p (y ∷ xs) x (suc k, lt, at) passes = by_test (p y) (Contains-filter p xs x (k, omega arith, at) passes) where
+  by_test : (b : Bool) → Contains (filter p xs) x → Contains (cond b (y ∷ filter p xs) (filter p xs)) x
+  by_test true (i, less, is) = (suc i, omega arith, is)
+  by_test false later = later
+
+-- a network with these arcs keeps both bounds
+pub has_network : (h : HierarchyLists) (core : NetworkLists) → core.arcs ≡ core_arcs h → IsNetwork core → HasNoNetwork h → ⊥
+has_network h core arcs rules (inl long) =
+    let short = All-contains (λ (arc : Arc). arc.ms < 2 ^ 32) core.arcs (core_arc long.entry) rules.arcs_fit
+    (subst (λ xs. Contains xs (core_arc long.entry)) (sym arcs) (Contains-map core_arc (filter (is_core_entry h.order) h.entries) long.entry (Contains-filter (is_core_entry h.order) h.entries long.entry long.listed long.core))) in
+    let least = long.long in
+    omega arith
+has_network h core arcs rules (inr many) = omega (arith, ap length arcs, rules.few_arcs)
 
 -- a fault that is not want of memory is a rule that is broken
 pub refused_for : (caps : Caps) (p : NetworkLists) (fault : NetFault) → (fault ≡ OutOfMemory → ⊥) → IsFaultOf caps p fault → AreRefused caps p

@@ -1,7 +1,6 @@
 -- The core of a hierarchy as a network: its road nodes, and an arc for each entry between two core nodes.
-use Rattle.std.specs.Prelude.{◌≡◌, ℕ, ◌^◌, ◌<◌, ◌≤◌, ◌⊎◌, Bool, true, ◌&&◌, List, [], length, map, filter, Some, Contains}
-use Rattle.plan_base.specs.{Caps}
-use Rattle.mode_network.specs.{Arc, NetFault, NetworkLists.NetworkLists, first_fault}
+use Rattle.std.specs.Prelude.{◌≡◌, ℕ, ◌^◌, ◌<◌, ◌≤◌, ◌⊎◌, Bool, true, ◌&&◌, List, [], length, map, filter, Contains}
+use Rattle.mode_network.specs.{Arc, NetworkLists.NetworkLists}
 use Rattle.hierarchy.specs.{Entry, HierarchyLists, IsSound, is_core}
 
 abbrev pub is_core_entry : List ℕ → Entry → Bool
@@ -31,13 +30,9 @@ pub record HasLongEntry (h : HierarchyLists) : Type 0 where
 abbrev pub HasNoNetwork : HierarchyLists → Type 0
 HasNoNetwork h = HasLongEntry h ⊎ (2 ^ 26 < length (core_arcs h))
 
--- parts break a rule of networks
-pub record AreRefused (caps : Caps) (parts : NetworkLists) : Type 0 where
-  pub fault : NetFault
-  pub first : first_fault caps parts ≡ Some fault
-
--- a hierarchy of the core, which is sound
+-- the core has a network, for which this hierarchy of it is sound
 pub record IsSoundOnCore (n : NetworkLists) (h k : HierarchyLists) : Type 0 where
   pub network : NetworkLists
   pub core : IsCoreOf n h network
+  pub fits : HasNoNetwork h → ⊥
   pub sound : IsSound network k

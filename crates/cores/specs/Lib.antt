@@ -1,2 +1,3 @@
 pub mod Cores
-pub use Cores.{is_core_entry, core_arc, core_arcs, IsCoreOf, HasLongEntry, HasNoNetwork, AreRefused, IsSoundOnCore}
+pub mod inside
+pub use Cores.{is_core_entry, core_arc, core_arcs, IsCoreOf, HasLongEntry, HasNoNetwork, IsSoundOnCore}

@@ -3,7 +3,8 @@
 ghost use Rattle.std.specs.Prelude.{◌≡◌, IfOk, IfSome, IfNone, None};
 ghost use Rattle.mode_network.specs.{AreParts, IsNetwork, OutOfMemory};
 ghost use Rattle.hierarchy.specs.{IsSound};
-ghost use Rattle.cores.specs.Cores.{AreRefused, HasLongEntry, HasNoNetwork, IsCoreOf, core_arcs, is_core_entry};
+ghost use Rattle.cores.specs.Cores.{HasLongEntry, HasNoNetwork, IsCoreOf, core_arcs, is_core_entry};
+ghost use Rattle.cores.specs.inside.Parts.{AreRefused};
 
 use hierarchy::{Entry, Hierarchy};
 use mode_network::{Arc, NetFault, Network, Node, Parts};
@@ -23,6 +24,7 @@ pub fn core_network(
 ) -> Result<Option<Network>, AllocError>
     requires { IsSound network.now hierarchy.now }
     ensures some { IfOk result (λ made. IfSome made (IsCoreOf network.now hierarchy.now)) }
+    ensures fits { IfOk result (λ made. IfSome made (λ _. HasNoNetwork hierarchy.now → ⊥)) }
     ensures none { IfOk result (λ made. IfNone made (HasNoNetwork hierarchy.now)) }
 {
     network.known();
@@ -47,10 +49,14 @@ pub fn core_network(
 fn network_of(alloc: Global, parts: Parts, caps: &Caps) -> Result<Option<Network>, AllocError>
     requires { AreParts parts }
     ensures some { IfOk result (λ made. IfSome made (λ network. network ≡ parts)) }
+    ensures rules { IfOk result (λ made. IfSome made (λ _. IsNetwork parts)) }
     ensures none { IfOk result (λ made. IfNone made (AreRefused caps.now parts)) }
 {
     match Network::build(alloc, parts, caps) {
-        Ok(network) => Ok(Some(network)),
+        Ok(network) => {
+            network.known();
+            Ok(Some(network))
+        }
         Err(fault) => refused(fault),
     }
 }

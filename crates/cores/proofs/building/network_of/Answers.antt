@@ -1,5 +1,5 @@
 use Rattle.plan_base.proofs.Common.{IfNone, IfOk-weaker, sym, subst}
-use Rattle.cores.specs.Cores.{AreRefused}
+use Rattle.cores.specs.inside.Parts.{AreRefused}
 use Rattle.cores.proofs.CoreLemmas.{refused_for}
 use Rattle.cores.proofs.building.network_of.Goals as goal
 
