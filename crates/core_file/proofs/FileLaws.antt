@@ -1,10 +1,11 @@
 -- Files with two hierarchies are read as they are spelled, and in one way.
-use Rattle.plan_base.proofs.Common.{◌≡◌, ℕ, ◌+◌, ◌<◌, ◌≤◌, ◌^◌, ◌⊎◌, inl, inr, true, List, ◌++◌, ◌∙◌, length, take, drop, Option, Some, None, refl, sym, ap, subst, arith, append_assoc, bytes_eq, nat_le, leb-true, le-leb, length-take-le, length-append, take-append-drop, take_at, drop_at, cond_some, same_Some, option_and_then_some, w64, to_be_bytes, Result, Ok, Err, IfOk, IfErr}
+use Rattle.plan_base.proofs.Common.{◌≡◌, ℕ, ◌+◌, ◌<◌, ◌≤◌, ◌^◌, inl, inr, true, List, ◌++◌, ◌∙◌, length, take, drop, Option, Some, None, refl, sym, ap, subst, arith, append_assoc, bytes_eq, nat_le, leb-true, le-leb, length-take-le, length-append, take-append-drop, take_at, drop_at, cond_some, same_Some, option_and_then_some, w64, to_be_bytes, Result, Ok, Err, IfOk, IfErr}
 use Rattle.file_records.specs.{number_front}
 use Rattle.file_records.proofs.{Steps.and_then, NumberLaws.IsBytes, NumberLaws.Takes, NumberLaws.begins_with, NumberLaws.wide64, NumberLaws.number_takes, NumberLaws.number_again}
 use Rattle.hierarchy.specs.{HierarchyLists}
-use Rattle.hierarchy_file.specs.{HFileFault, BadHead, BadRecord, Trailing, OutOfMemory, magic, counts_text, hierarchy_counts, records_text, hierarchy_text, SpellHierarchy, IsNoHierarchy, IsRefusedHierarchy}
-use Rattle.core_file.specs.{core_magic, behind_core_magic, cut_at, parts_of, HasParts, SpellBoth, SpellFile, core_head, behind, IsPlacedBy, HasNoParts, FirstIsNone, CoreIsNone, IsNoFile, IsRefusedFile}
+use Rattle.hierarchy_file.specs.{HFileFault, BadHead, BadRecord, Trailing, OutOfMemory, magic, counts_text, hierarchy_counts, records_text, hierarchy_text, SpellHierarchy, IsRefusedHierarchy}
+use Rattle.core_file.specs.{core_magic, HasParts, SpellFile, core_head, behind, HasNoParts, IsNoFile, IsRefusedFile}
+use Rattle.core_file.specs.inside.Parts.{behind_core_magic, cut_at, parts_of, IsPlacedBy}
 use Rattle.hierarchy_file.proofs.CauseLaws.{spell_one, no_hierarchy}
 
 -- the place of a refusal is within the bytes

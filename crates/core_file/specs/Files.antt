@@ -1,10 +1,9 @@
 -- A file that has a hierarchy alone, or one and behind it a hierarchy of its core.
-use Rattle.std.specs.Prelude.{◌≡◌, ℕ, ◌+◌, ◌<◌, ◌≤◌, ◌^◌, nat_le, ◌⊎◌, List, ◌++◌, length, codes, take, drop, Option, Some, None, option_and_then, if◌then◌else◌, bytes_eq}
+use Rattle.std.specs.Prelude.{◌≡◌, ℕ, ◌+◌, ◌<◌, ◌^◌, ◌⊎◌, List, ◌++◌, length, codes, Option, Some, None}
 use Rattle.std.specs.Int.{w64, to_be_bytes}
-use Rattle.file_records.specs.{number_front}
 use Rattle.hierarchy.specs.{HierarchyLists}
 use Rattle.hierarchy_file.specs.{HFileFault, BadHead, BadRecord, Trailing, OutOfMemory, SpellHierarchy, IsNoHierarchy}
-pub use Rattle.core_file.specs.declared.files.FileLists.{FileLists}
+pub use Rattle.core_file.specs.{declared.files.FileLists.FileLists, declared.files.FileFormat.FileFormat, declared.files.FileFormat.TheVariants.Alone, declared.files.FileFormat.TheVariants.WithCore}
 
 abbrev pub core_magic : List ℕ
 core_magic = codes "MPHIER02"
@@ -27,27 +26,6 @@ abbrev pub SpellFile : List ℕ → HierarchyLists → Option HierarchyLists →
 SpellFile bytes h None = SpellHierarchy bytes h
 SpellFile bytes h (Some core) = SpellBoth bytes h core
 
--- ---- reading from left to right
-
-infixl 10 ◌>>=◌
-abbrev pub ◌>>=◌ : {A B : Type 0} → Option A → (A → Option B) → Option B
-o >>= f = option_and_then f o
-
--- the bytes behind the magic, where they begin with it
-unfoldable pub behind_core_magic : List ℕ → Option (List ℕ)
-behind_core_magic bytes = if bytes_eq (take (length core_magic) bytes) core_magic then Some (drop (length core_magic) bytes) else None
-
--- so many bytes and the rest, where there are so many
-abbrev pub cut_at : ℕ × List ℕ → Option (List ℕ × List ℕ)
-cut_at first = if nat_le first.0 (length first.1) then Some (take first.0 first.1, drop first.0 first.1) else None
-
--- the first part and the rest, where the bytes have them
-unfoldable pub parts_of : List ℕ → Option (List ℕ × List ℕ)
-parts_of bytes = do
-  behind ← behind_core_magic bytes
-  first ← number_front w64 behind
-  cut_at first
-
 -- ---- why bytes are refused
 
 -- how many bytes stand before the first part
@@ -60,13 +38,6 @@ behind before BadHead = BadRecord before
 behind before (BadRecord at) = BadRecord (before + at)
 behind before (Trailing at) = Trailing (before + at)
 behind before OutOfMemory = OutOfMemory
-
--- the place that a fault tells is no greater than this
-abbrev pub IsPlacedBy : ℕ → HFileFault → Type 0
-IsPlacedBy most BadHead = Unit {0}
-IsPlacedBy most (BadRecord at) = at ≤ most
-IsPlacedBy most (Trailing at) = at ≤ most
-IsPlacedBy most OutOfMemory = Unit {0}
 
 -- the first part spells no hierarchy
 pub record FirstIsNone (bytes : List ℕ) (fault : HFileFault) : Type 0 where

@@ -1,3 +1,3 @@
 pub mod Files
-pub use Files.{FileLists, core_magic, HasParts, SpellBoth, SpellFile, cut_at, core_head, behind, IsPlacedBy, FirstIsNone, CoreIsNone, HasNoParts, IsNoFile, IsRefusedFile}
-unfoldable pub use Files.{behind_core_magic, parts_of}
+pub mod inside
+pub use Files.{FileFormat, Alone, WithCore, FileLists, core_magic, HasParts, SpellBoth, SpellFile, core_head, behind, FirstIsNone, CoreIsNone, HasNoParts, IsNoFile, IsRefusedFile}

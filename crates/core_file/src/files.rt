@@ -1,7 +1,8 @@
 //! Files that have a hierarchy alone, or one and behind it a hierarchy of its core.
 
 ghost use Rattle.std.specs.Prelude.{◌≡◌, ◌+◌, ◌-◌, ◌<◌, ◌≤◌, ◌^◌, List, ℕ, Some, length, IfOk, IfErr, IfSome, option_map};
-ghost use Rattle.core_file.specs.Files.{core_head, behind_core_magic, parts_of, behind, IsPlacedBy, HasParts, SpellFile, SpellBoth, IsRefusedFile};
+ghost use Rattle.core_file.specs.Files.{core_head, behind, HasParts, SpellFile, SpellBoth, IsRefusedFile};
+ghost use Rattle.core_file.specs.inside.Parts.{behind_core_magic, parts_of, IsPlacedBy};
 
 use file_records::{push_u64, u64_front};
 use hierarchy::Lists;
@@ -13,6 +14,15 @@ const CORE_MAGIC: &[u8] = b"MPHIER02";
 /// How many bytes stand before its first part: the magic, and how long this part is.
 const CORE_HEAD: u64 = 16;
 
+/// The formats that a file of a hierarchy may have.
+#[derive(Clone, Copy, Debug, PartialEq, Eq)]
+pub enum FileFormat {
+    /// Format 1, a hierarchy alone.
+    Alone,
+    /// Format 2, a hierarchy and behind it one of its core.
+    WithCore,
+}
+
 /// The lists of a file: those of a hierarchy, and where the file has one, those of a hierarchy of its core.
 #[derive(Drop)]
 pub struct FileLists {
@@ -21,7 +31,7 @@ pub struct FileLists {
 }
 
 /// The bytes behind the magic.
-#[tactic(auto, unfolding(crate::specs::Files::behind_core_magic))]
+#[tactic(auto, unfolding(crate::specs::inside::Parts::behind_core_magic))]
 fn behind_magic(bytes: &[u8]) -> Option<&[u8]>
     ensures { option_map (λ rest. rest.now) result ≡ behind_core_magic bytes.now }
 {
@@ -29,7 +39,7 @@ fn behind_magic(bytes: &[u8]) -> Option<&[u8]>
 }
 
 /// The first part and the rest of bytes that have two.
-#[tactic(auto, unfolding(crate::specs::Files::parts_of))]
+#[tactic(auto, unfolding(crate::specs::inside::Parts::parts_of))]
 fn parts_of(bytes: &[u8]) -> Option<(&[u8], &[u8])>
     ensures { option_map (λ x. (x.0.now, x.1.now)) result ≡ parts_of bytes.now }
 {
@@ -99,9 +109,22 @@ fn behind(before: u64, fault: HFileFault) -> HFileFault
     }
 }
 
-/// The one spelling of a hierarchy and one of its core, which [`decode_file`] reads again. It takes as much room as both of these, and
-/// that of each is free again when it is spelled.
-pub fn encode_both(alloc: Global, hierarchy: Lists, core: Lists) -> Result<Vec<u8>, AllocError>
+/// The one spelling of a hierarchy, with that of one of its core or without, which [`decode_file`] reads again: in format 2 or 1.
+pub fn encode_file(
+    alloc: Global,
+    hierarchy: Lists,
+    core: Option<Lists>,
+) -> Result<Vec<u8>, AllocError>
+    ensures { IfOk result (λ bytes. SpellFile bytes.items hierarchy core) }
+{
+    match core {
+        None => encode(alloc, hierarchy),
+        Some(core) => encode_both(alloc, hierarchy, core),
+    }
+}
+
+/// The spelling of both. It takes as much room as each of them, and that of each is free again when it is spelled.
+fn encode_both(alloc: Global, hierarchy: Lists, core: Lists) -> Result<Vec<u8>, AllocError>
     ensures { IfOk result (λ bytes. SpellBoth bytes.items hierarchy core) }
 {
     let first = encode(alloc, hierarchy)?;

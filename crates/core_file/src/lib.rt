@@ -3,4 +3,4 @@
 
 pub mod files;
 
-pub use files::{FileLists, decode_file, encode_both};
+pub use files::{FileFormat, FileLists, decode_file, encode_file};

@@ -1,6 +1,5 @@
-use Rattle.plan_base.proofs.Common.{◌≡◌, ◌+◌, ◌-◌, ◌^◌, ◌<◌, ◌≤◌, ℕ, List, length, Some, arith}
-use Rattle.core_file.specs.{IsPlacedBy}
-use Rattle.core_file.proofs.FileLaws.{refused_within, placed_more, first_refused, core_refused}
+use Rattle.plan_base.proofs.Common.{length, arith}
+use Rattle.core_file.proofs.FileLaws.{refused_within, placed_more}
 use Rattle.core_file.proofs.files.both_of.Goals as goal
 
 pub behind-requires : goal.behind-requires

@@ -1,5 +1,6 @@
-use Rattle.plan_base.proofs.Common.{◌≡◌, ◌∙◌, ◌+◌, ◌≤◌, List, ℕ, length, Some, None, Option, sym, ap, arith, option_map, Bor}
-use Rattle.core_file.specs.{HasParts, SpellFile, IsRefusedFile, parts_of, FileLists}
+use Rattle.plan_base.proofs.Common.{◌≡◌, ◌∙◌, List, ℕ, Some, Option, sym, ap, arith, option_map, Bor}
+use Rattle.core_file.specs.{HasParts, SpellFile, IsRefusedFile, FileLists}
+use Rattle.core_file.specs.inside.Parts.{parts_of}
 use Rattle.file_records.proofs.NumberLaws.{IsBytes}
 use Rattle.core_file.proofs.{FileLaws.parts_take, FileLaws.parts_long, FileLaws.no_parts, FileLaws.alone_refused, FileLaws.ok_of, FileLaws.err_of}
 use Rattle.core_file.proofs.files.decode_file.Goals as goal
