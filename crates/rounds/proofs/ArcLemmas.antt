@@ -1,10 +1,11 @@
 -- Arcs before any descent: the letters of those at road nodes, and the steady ones as entries.
-use Rattle.plan_base.proofs.Common.{◌≡◌, ℕ, ◌+◌, ◌<◌, ◌≤◌, ◌⊎◌, inl, inr, ◌∙◌, ◌||◌, ◌&&◌, nat_lt, Bool, true, false, List, [], length, get_or, Option, Some, None, refl, sym, ap, ap₂, subst, subst₂, arith, slice_get-get_or, get_or_default, ltb-true, eqb-true}
-use Rattle.search_laws.specs.{GraphMeaning, HasArc, GraphArc}
-use Rattle.mode_network.specs.{NetworkLists.NetworkLists, letter_at, IsNetwork, Step, Wait, Link, Stand, Ride, IsStep, declared.steps.Step.TheVariants.Road}
-use Rattle.mode_network.proofs.{RuleLemmas.both, RuleLemmas.letter_is_road, RuleLemmas.some_is}
+use Rattle.plan_base.proofs.Common.{◌≡◌, ℕ, ◌+◌, ◌<◌, ◌≤◌, ◌⊎◌, inl, inr, ◌∙◌, ◌||◌, ◌&&◌, nat_lt, Bool, true, false, List, [], length, get_or, Option, Some, None, refl, sym, ap, ap₂, subst, subst₂, arith, slice_get-get_or, get_or_default, ltb-true, eqb-true, Contains}
+use Rattle.plan_base.specs.{number_of_mode}
+use Rattle.search_laws.specs.{GraphMeaning, HasArc, GraphArc, LabelsMeaning, HasMove, Follows}
+use Rattle.mode_network.specs.{NetworkLists.NetworkLists, letter_at, nodes_of, IsNetwork, Step, Wait, Link, Stand, Ride, IsStep, declared.steps.Step.TheVariants.Road}
+use Rattle.mode_network.proofs.{RuleLemmas.both, RuleLemmas.letter_is_road, RuleLemmas.letter_of, RuleLemmas.some_is}
 use Rattle.hierarchy.specs.{Entry, HierarchyLists, height_in, HasEntry, IsHierarchy, entry_at, is_core, leads_up, no_entry}
-use Rattle.hierarchy.proofs.RiseLemmas.{are_rise_places}
+use Rattle.hierarchy.proofs.{RiseLemmas.are_rise_places, SoundLemmas.fits}
 use Rattle.phase_graph.specs.{PhaseMove, rest, rise, fall, cross, stand, IsCrossing, IsPhaseMove, IsRise, IsPhaseGraph, Up, arc_of, is_down, legs_at, node_of, phase_arc, phase_arrival, phase_meaning, phase_node, rises_at}
 use Rattle.phase_graph.specs.{declared.in_use.GraphInUse.GraphInUse, declared.in_use.GraphInUse.TheVariants.Plain, declared.in_use.GraphInUse.TheVariants.Phases}
 use Rattle.phase_graph.specs.InUseGraph.{hierarchy_in, meaning_in_use, network_in, steady_in_use}
@@ -109,3 +110,35 @@ steady_arc (Phases p) n h network hierarchy rules v i t u lt arrives =
 pub steady_within : (graph : GraphInUse) (h : HierarchyLists) → hierarchy_in graph ≡ Some h → (p : ℕ) → steady_in_use graph p ≤ (meaning_in_use graph).arcs p
 steady_within (Plain it) h hierarchy p = cc
 steady_within (Phases it) h hierarchy p = omega (arith, legs_few it.hierarchy.now (node_of p) (is_down p))
+
+-- ---- what arcs before any descent lead to
+
+module _ (r : Rounds) (is : AreRounds r) (network : IsNetwork r.network.now) (rules : IsHierarchy r.hierarchy.now) (l : LabelsMeaning) (P : ℕ → ℕ → ℕ → Type 0) (v q t : ℕ) where
+  abbrev g : GraphMeaning
+  g = meaning_in_use r.graph
+
+  abbrev p : ℕ
+  p = phase_node v false
+
+  -- P holds where the steady arcs lead to, if it does where entries do
+  pub rise_to : ((w weight c s : ℕ) → HasEntry r.hierarchy.now.entries v w weight → IsRise r.hierarchy.now v w → letter_at r.network.now.roads v ≡ Some c → HasMove l q c s → P (phase_node w false) s (t + weight))
+      → (i u s : ℕ) → i < steady_in_use r.graph p → g.arrive p i t ≡ Some u → Follows l q (g.arc_at p i).letter s → P (g.arc_at p i).to s u
+  rise_to on i u s steady arrives follows =
+      let way = steady_arc r.graph r.network.now r.hierarchy.now is.network_is is.hierarchy_is rules v i t u steady arrives in
+      let f = fits r.network.now r.hierarchy.now is.sound v way.to way.weight way.entry in
+      let c = number_of_mode f.mode in
+      let letter : letter_at r.network.now.roads v ≡ Some c = letter_of r.network.now.roads v _ f.from_mode in
+      let there = on way.to way.weight c s way.entry way.rises letter (subst (λ o. Follows l q o s) (way.letter ∙ letter) follows) in
+      subst (λ x. P x s u) (sym way.leads) (subst (P (phase_node way.to false) s) (sym way.at) there)
+
+  -- and where the other arcs of a node that is no crossing lead to, if it does where one stands
+  pub stand_to : (Contains r.crossings.items v → ⊥) → P p q t → ((c s : ℕ) → letter_at r.network.now.roads v ≡ Some c → HasMove l q c s → P p s t)
+      → (i u s : ℕ) → steady_in_use r.graph p ≤ i → HasArc g p i → g.arrive p i t ≡ Some u → Follows l q (g.arc_at p i).letter s → P (g.arc_at p i).to s u
+  stand_to none here on i u s past has arrives follows =
+      let inside : v < length (nodes_of r.network.now) = omega (arith, has.node, ap (λ (x : GraphMeaning). x.nodes) is.in_use.is) in
+      let quiet = is.quiet v inside none in
+      let standing = quiet.standing t i u past has.arc arrives in
+      subst (λ x. P x s u) (sym standing.0) (subst (P p s) (sym standing.1) (elim (arc_letter r.network.now network v quiet.letter quiet.road r.hierarchy.now [] g (phases_of r is network rules) false i t u has arrives) [
+        | inl told ↦ on quiet.letter s quiet.road (subst (λ o. Follows l q o s) told follows)
+        | inr plain ↦ subst (λ x. P p x t) (sym (subst (λ o. Follows l q o s) plain follows)) here
+      ]))

@@ -1,18 +1,16 @@
 -- When rounds have come to an end their labels are all that walks reach.
-use Rattle.plan_base.proofs.Common.{◌≡◌, ◌∙◌, ℕ, zero, suc, ◌+◌, ◌*◌, ◌<◌, ◌≤◌, ◌⊎◌, inl, inr, false, List, [], ◌∷◌, length, slice_index, Option, Some, None, refl, sym, ap, subst, arith, Contains, All-contains, cases_eq, cases_lt, Vec, Global}
-use Rattle.plan_base.specs.{number_of_mode}
+use Rattle.plan_base.proofs.Common.{◌≡◌, ℕ, zero, suc, ◌+◌, ◌*◌, ◌<◌, ◌≤◌, ◌⊎◌, inl, inr, false, List, [], ◌∷◌, length, slice_index, Option, Some, None, refl, sym, ap, subst, arith, Contains, All-contains, cases_eq, cases_lt, Vec, Global}
 use Rattle.search_laws.specs.{GraphMeaning, HasArc, LabelsMeaning, IsLawfulLabels, HasMove, Reads, Follows, AllAfter}
 use Rattle.search_laws.proofs.WalkLemmas.{earlier_of, one_after, walk_known}
 use Rattle.mode_network.specs.{NetworkLists.NetworkLists, nodes_of, letter_at}
-use Rattle.mode_network.proofs.RuleLemmas.{letter_of}
 use Rattle.hierarchy.specs.{HierarchyLists, height_in, IsContracted, IsCore}
-use Rattle.hierarchy.proofs.{HeightLemmas.height_most, SoundLemmas.fits}
+use Rattle.hierarchy.proofs.{HeightLemmas.height_most}
 use Rattle.product_search.specs.{Label, IsListedBy, label_of}
 use Rattle.product_search.proofs.ClosureLemmas.{all_after}
 use Rattle.phase_graph.specs.{IsRise, phase_node, node_of, InUseGraph.meaning_in_use, InUseGraph.steady_in_use, InUseGraph.lawful_in_use}
 use Rattle.rounds.specs.{AreReachedLabels}
 use Rattle.rounds.specs.inside.{AskedMeaning, Reaches, Turn, node_at, cell, IsCrossedBy, IsWalkLabel, IsCrossingLabel}
-use Rattle.rounds.proofs.{ArcLemmas.phases_of, ArcLemmas.steady_arc, ArcLemmas.arc_letter, LabelLemmas.HasPlace, LabelLemmas.HasWalkAt, LabelLemmas.HaveEnded, LabelLemmas.walk_listed, LabelLemmas.crossed_listed, LabelLemmas.crossing_visits, LabelLemmas.walk_on, LabelLemmas.walk_turns, LabelLemmas.crossing_turns, LabelLemmas.first_turns, LabelLemmas.walk_returns, LabelLemmas.first_crosses}
+use Rattle.rounds.proofs.{ArcLemmas.rise_to, ArcLemmas.stand_to, LabelLemmas.HasPlace, LabelLemmas.HasWalkAt, LabelLemmas.HaveEnded, LabelLemmas.walk_listed, LabelLemmas.crossed_listed, LabelLemmas.crossing_visits, LabelLemmas.walk_on, LabelLemmas.walk_turns, LabelLemmas.crossing_turns, LabelLemmas.first_turns, LabelLemmas.walk_returns, LabelLemmas.first_crosses}
 
 -- a number is in a list, or is not
 contains_or_not : (xs : List ℕ) (v : ℕ) → Contains xs v ⊎ (Contains xs v → ⊥)
@@ -130,15 +128,8 @@ module _ {a : AskedMeaning} {firsts : List Label} {turns : List Turn} {walks row
   -- what an entry along the core leads to from a label at a core node has a label by then
   entry_on : (x : Label) (at : IsAtCore x) (i u r : ℕ) → i < steady_in_use a.rounds.graph (phase_node at.node false) → g.arrive (phase_node at.node false) i x.at ≡ Some u
       → Follows a.labels x.state (g.arc_at (phase_node at.node false) i).letter r → IsListedBy labels (g.arc_at (phase_node at.node false) i).to r u
-  entry_on x at i u r steady arrives follows =
-      let v = at.node in
-      let way = steady_arc a.rounds.graph n h e.rounds.network_is e.rounds.hierarchy_is e.rules v i x.at u steady arrives in
-      let f = fits n h e.rounds.sound v way.to way.weight way.entry in
-      let c = number_of_mode f.mode in
-      let mode : letter_at n.roads v ≡ Some c = letter_of n.roads v _ f.from_mode in
-      let walk = at.turns_on c r mode (subst (λ o. Follows a.labels x.state o r) (way.letter ∙ mode) follows) in
-      let on = walk_on e v r x.at way.to way.weight walk way.entry (along_core h v way.to at.core way.rises) in
-      subst (λ p. IsListedBy labels p r u) (sym way.leads) (subst (λ t. IsListedBy labels (phase_node way.to false) r t) (sym way.at) (walk_listed e way.to r (x.at + way.weight) on))
+  entry_on x at = rise_to a.rounds e.rounds e.network e.rules a.labels (IsListedBy labels) at.node x.state x.at
+      (λ w weight c r entry rises letter move. walk_listed e w r (x.at + weight) (walk_on e at.node r x.at w weight (at.turns_on c r letter move) entry (along_core h at.node w at.core rises)))
 
   -- so has what a link or a ride leads to
   crosses_on : (x : Label) (at : IsAtCore x) (i u r : ℕ) → x.state < a.labels.states → steady_in_use a.rounds.graph (phase_node at.node false) ≤ i → HasArc g (phase_node at.node false) i → g.arrive (phase_node at.node false) i x.at ≡ Some u
@@ -155,19 +146,8 @@ module _ {a : AskedMeaning} {firsts : List Label} {turns : List Turn} {walks row
       → g.arrive (phase_node at.node false) i x.at ≡ Some u → Follows a.labels x.state (g.arc_at (phase_node at.node false) i).letter r → (Contains a.rounds.crossings.items at.node → ⊥)
       → IsListedBy labels (g.arc_at (phase_node at.node false) i).to r u
   stands_on x at i u r there past has arrives follows none =
-      let v = at.node in
-      let inside : v < length (nodes_of n) = omega (arith, has.node, has_nodes) in
-      let quiet = e.rounds.quiet v inside none in
-      let standing = quiet.standing x.at i u past has.arc arrives in
-      let p = phase_node v false in
-      let letter = (g.arc_at p i).letter in
-      subst (λ q. IsListedBy labels q r u) (sym standing.0) (subst (λ t. IsListedBy labels p r t) (sym standing.1) (elim (arc_letter n e.network v quiet.letter quiet.road h [] g (phases_of a.rounds e.rounds e.network e.rules) false i x.at u has arrives) [
-        | inl told ↦ walk_listed e v r x.at (at.turns_on quiet.letter r quiet.road (subst (λ o. Follows a.labels x.state o r) told follows))
-        | inr plain ↦ (
-            let same : r ≡ x.state = subst (λ o. Follows a.labels x.state o r) plain follows in
-            (x.at, omega arith, subst (λ q. Contains labels (label_of p q x.at)) (sym same) (subst (λ q. Contains labels (label_of q x.state x.at)) at.is_node there))
-            )
-      ]))
+      stand_to a.rounds e.rounds e.network e.rules a.labels (IsListedBy labels) at.node x.state x.at none (x.at, omega arith, subst (λ p. Contains labels (label_of p x.state x.at)) at.is_node there)
+      (λ c s letter move. walk_listed e at.node s x.at (at.turns_on c s letter move)) i u r past has arrives follows
 
   -- so it is with any arc of a core node
   core_on : (x : Label) (at : IsAtCore x) (i u r : ℕ) → Contains labels x → x.state < a.labels.states → HasArc g (phase_node at.node false) i → g.arrive (phase_node at.node false) i x.at ≡ Some u

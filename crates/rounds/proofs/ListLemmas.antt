@@ -1,5 +1,5 @@
 -- Lists of labels that go on, label by label and row by row.
-use Rattle.plan_base.proofs.Common.{◌≡◌, ◌∙◌, ℕ, ◌+◌, ◌*◌, ◌^◌, ◌<◌, ◌⊎◌, inl, inr, false, List, [], ◌∷◌, ◌++◌, length, slice_index, slice_get, Some, refl, sym, ap, subst, arith, Contains, All-contains, All-contains_itself, Contains-append_left, Contains-push, Contains-push_cases, cases_eq, Vec, Global}
+use Rattle.plan_base.proofs.Common.{◌≡◌, ◌∙◌, ℕ, ◌+◌, ◌*◌, ◌^◌, ◌<◌, ◌⊎◌, inl, inr, false, List, [], ◌∷◌, ◌++◌, length, get_or, take, take_more, slice_index, slice_get, Some, refl, sym, ap, subst, arith, Contains, All-contains, All-contains_itself, Contains-append_left, Contains-push, Contains-push_cases, cases_eq, Vec, Global}
 use Rattle.search_laws.specs.{GraphMeaning, IsLawfulLabels}
 use Rattle.mode_network.specs.{nodes_of}
 use Rattle.mode_network.proofs.RuleLemmas.{some_is}
@@ -9,7 +9,7 @@ use Rattle.phase_graph.specs.{phase_node, InUseGraph.meaning_in_use, InUseGraph.
 use Rattle.sweeps.specs.{time_at}
 use Rattle.sweeps.proofs.EntryLemmas.{Contains-from_map}
 use Rattle.rounds.specs.{AreRounds, AreStarts, CoreLayer}
-use Rattle.rounds.specs.inside.{AskedMeaning, Reaches, IsLayerOf, Turn, node_at, row_of, cell, never, AddsLabels, IsRowLabel, IsWalkLabel, IsCrossingLabel, AreLabelsOf, crossing_node}
+use Rattle.rounds.specs.inside.{AskedMeaning, Reaches, IsLayerOf, Turn, node_at, row_of, cell, never, AddsLabels, IsOfAny, IsRowLabel, IsWalkLabel, IsCrossingLabel, AreLabelsOf, crossing_node}
 
 -- a list goes on with nothing
 pub adds_none : (P : Label → Type 0) (xs : List Label) → ((x : Label) → P x → ⊥) → AddsLabels P xs xs
@@ -50,6 +50,20 @@ adds_more P R Q before mid after first then from_first from_then are = record {
   by_part : (x : Label) → P x ⊎ R x → Contains after x
   by_part x (inl p) = All-contains (Contains after) mid x then.kept (first.all x p)
   by_part x (inr r) = then.all x r
+
+-- with the labels for one more of some
+module _ {X : Type 0} (P : X → Label → Type 0) (xs : List X) (k : ℕ) (d : X) (lt : k < length xs) where
+  abbrev this : X
+  this = get_or xs k d
+
+  of_split : (x : Label) → IsOfAny P (take k xs ++ this ∷ []) x → IsOfAny P (take k xs) x ⊎ P this x
+  of_split x (y, there, p) = elim (Contains-push_cases (take k xs) this y there) [ inl was ↦ inl (y, was, p) | inr same ↦ inr (subst (λ z. P z x) (sym same) p) ]
+
+  pub of_more : (old now next : List Label) → AddsLabels (IsOfAny P (take k xs)) old now → AddsLabels (P this) now next → AddsLabels (IsOfAny P (take (k + 1) xs)) old next
+  of_more old now next so_far adds =
+      subst (λ ys. AddsLabels (IsOfAny P ys) old next) (sym (take_more xs k d lt))
+      (adds_more (IsOfAny P (take k xs)) (P this) (IsOfAny P (take k xs ++ this ∷ [])) old now next so_far adds (λ x of. (of.0, Contains-append_left (take k xs) (this ∷ []) of.0 of.1, of.2))
+      (λ x p. (this, Contains-push (take k xs) this, p)) of_split)
 
 -- ---- rows
 
@@ -176,13 +190,17 @@ labels_of a firsts turns walks rows mid labels first then = record {
 
 -- ---- numbers
 
--- what is reached from starts is a number of the phase graph
-pub reached_low : (a : AskedMeaning) → AreRounds a.rounds → AreStarts a.rounds a.starts → IsLawfulLabels a.labels → (p q t : ℕ) → Reaches a p q t → p < 2 ^ 25
-reached_low a is starts lawful p q t r =
-    let g = meaning_in_use a.rounds.graph in
-    let graph = lawful_in_use a.rounds.graph in
-    let from = Contains-from_map (λ v. phase_node v false) starts.origins r.start (subst (λ ps. Contains ps r.start) starts.are r.starts_there) in
-    let low : from.0 < length (nodes_of a.rounds.network.now) = All-contains (λ v. v < length (nodes_of a.rounds.network.now)) starts.origins from.0 starts.within from.1 in
-    let count : g.nodes ≡ 2 * length (nodes_of a.rounds.network.now) = ap (λ (x : GraphMeaning). x.nodes) is.in_use.is in
-    let stays = walk_stays g graph a.labels lawful r.steps r.start a.dep p t (omega (arith, low, count, from.2)) r.walk in
-    omega (arith, stays, graph.few_nodes)
+module _ (a : AskedMeaning) (is : AreRounds a.rounds) (starts : AreStarts a.rounds a.starts) (lawful : IsLawfulLabels a.labels) where
+  abbrev g : GraphMeaning
+  g = meaning_in_use a.rounds.graph
+
+  -- what is reached from starts is a number of the phase graph
+  pub reached_inside : (p q t : ℕ) → Reaches a p q t → p < g.nodes
+  reached_inside p q t r =
+      let from = Contains-from_map (λ v. phase_node v false) starts.origins r.start (subst (λ ps. Contains ps r.start) starts.are r.starts_there) in
+      let low : from.0 < length (nodes_of a.rounds.network.now) = All-contains (λ v. v < length (nodes_of a.rounds.network.now)) starts.origins from.0 starts.within from.1 in
+      let count : g.nodes ≡ 2 * length (nodes_of a.rounds.network.now) = ap (λ (x : GraphMeaning). x.nodes) is.in_use.is in
+      walk_stays g (lawful_in_use a.rounds.graph) a.labels lawful r.steps r.start a.dep p t (omega (arith, low, count, from.2)) r.walk
+
+  pub reached_low : (p q t : ℕ) → Reaches a p q t → p < 2 ^ 25
+  reached_low p q t r = omega (arith, reached_inside p q t r, (lawful_in_use a.rounds.graph).few_nodes)

@@ -2,8 +2,8 @@
 use Rattle.plan_base.proofs.Common.{◌≡◌, ◌∙◌, ℕ, ◌+◌, ◌<◌, ◌≤◌, ◌⊎◌, inl, inr, false, Some, List, [], ◌∷◌, length, get_or, take, refl, sym, ap, subst, subst₂, arith, Vec, Global, All, Contains, All-contains, All-more, All-weaker, Contains-get_or, same_Some, slice_index, slice_get, set, ◌≢◌, cases_eq, length-set}
 use Rattle.search_laws.specs.{GraphMeaning, HasMove, Follows, Leg}
 use Rattle.mode_network.specs.{NetworkLists.NetworkLists, letter_at, IsNetwork}
-use Rattle.hierarchy.specs.{Hop, AreHops, total, HierarchyLists, IsHierarchy}
-use Rattle.phase_graph.specs.{rise, stand, phase_node, IsPhaseGraph, meaning_in_use}
+use Rattle.hierarchy.specs.{Hop, AreHops, total, HierarchyLists, HasEntry, IsHierarchy}
+use Rattle.phase_graph.specs.{rise, stand, phase_node, IsRise, IsPhaseGraph, meaning_in_use}
 use Rattle.phase_graph.proofs.{GraphMoves.is_phase_graph, MoveLemmas.same_mode}
 use Rattle.sweeps.specs.{time_at, LeadsBetween, AreWalked, row_at, leg_by}
 use Rattle.sweeps.proofs.EntryLemmas.{hop_by}
@@ -83,20 +83,27 @@ module _ (a : AskedMeaning) (are : AreRounds a.rounds) (network : IsNetwork a.ro
   pub stands_on : (v q t r letter : ℕ) → Reaches a (phase_node v false) q t → letter_at n.roads v ≡ Some letter → HasMove a.labels q letter r → Reaches a (phase_node v false) r t
   stands_on v q t r letter reached is move = reached_on n h [] g phases a.labels a.starts a.dep stand v false t q v false t r (Some letter) reached (letter, is, refl, refl, refl, refl) move
 
-  -- and where an entry leads along the core, one may go on
-  leads_on : (u v w q t r letter : ℕ) → Reaches a (phase_node u false) q t → CoreLeads h u v w → letter_at n.roads u ≡ Some letter → HasMove a.labels q letter r → Reaches a (phase_node v false) r (t + w)
-  leads_on u v w q t r letter reached leads is move =
-      reached_on n h [] g phases a.labels a.starts a.dep (rise (hop_by v w)) u false t q v false (t + w) r (letter_at n.roads u) reached (refl, leads.0, inr (leads.1, leads.2), refl, refl, refl, refl)
+  -- and where an entry leads up or along the core, one may go on
+  rises_on : (u v w q t r letter : ℕ) → Reaches a (phase_node u false) q t → HasEntry h.entries u v w → IsRise h u v → letter_at n.roads u ≡ Some letter → HasMove a.labels q letter r → Reaches a (phase_node v false) r (t + w)
+  rises_on u v w q t r letter reached entry rises is move =
+      reached_on n h [] g phases a.labels a.starts a.dep (rise (hop_by v w)) u false t q v false (t + w) r (letter_at n.roads u) reached (refl, entry, rises, refl, refl, refl, refl)
       (subst (λ o. Follows a.labels q o r) (sym is) move)
 
   -- so may one over many, where the letter can be read again
-  hops_on : (hops : List Hop) (u v q t letter : ℕ) → Reaches a (phase_node u false) q t → letter_at n.roads u ≡ Some letter → HasMove a.labels q letter q → AreHops (CoreLeads h) u hops v
-      → Reaches a (phase_node v false) q (t + total hops)
-  hops_on [] u v q t letter reached is stays walk = subst₂ (λ x s. Reaches a (phase_node x false) q s) (sym walk) (omega arith) reached
-  hops_on (hop ∷ hops) u v q t letter reached is stays (leads, walk) =
-      let sum : (t + hop.weight) + total hops ≡ t + (hop.weight + total hops) = omega arith in
-      subst (Reaches a (phase_node v false) q) sum
-      (hops_on hops hop.to v q (t + hop.weight) letter (leads_on u hop.to hop.weight q t q letter reached leads is stays) (same_mode n h are.sound [] u hop.to hop.weight letter leads.0 is) stays walk)
+  module _ (Leads : ℕ → ℕ → ℕ → Type 0) (rises : (u v w : ℕ) → Leads u v w → HasEntry h.entries u v w × IsRise h u v) where
+    pub hops_on : (hops : List Hop) (u v q t letter : ℕ) → Reaches a (phase_node u false) q t → letter_at n.roads u ≡ Some letter → HasMove a.labels q letter q → AreHops Leads u hops v
+        → Reaches a (phase_node v false) q (t + total hops)
+    hops_on [] u v q t letter reached is stays walk = subst₂ (λ x s. Reaches a (phase_node x false) q s) (sym walk) (omega arith) reached
+    hops_on (hop ∷ hops) u v q t letter reached is stays (leads, walk) =
+        let on = rises u hop.to hop.weight leads in
+        let sum : (t + hop.weight) + total hops ≡ t + (hop.weight + total hops) = omega arith in
+        subst (Reaches a (phase_node v false) q) sum
+        (hops_on hops hop.to v q (t + hop.weight) letter (rises_on u hop.to hop.weight q t q letter reached on.0 on.1 is stays) (same_mode n h are.sound [] u hop.to hop.weight letter on.0 is) stays walk)
+
+    -- which stays that of the nodes
+    pub hops_letter : (hops : List Hop) (u v letter : ℕ) → letter_at n.roads u ≡ Some letter → AreHops Leads u hops v → letter_at n.roads v ≡ Some letter
+    hops_letter [] u v letter is walk = ap (letter_at n.roads) walk ∙ is
+    hops_letter (hop ∷ hops) u v letter is (leads, walk) = hops_letter hops hop.to v letter (same_mode n h are.sound [] u hop.to hop.weight letter (rises u hop.to hop.weight leads).0 is) walk
 
   module _ (turn : Turn) (is_turn : IsTurn a.labels turn) (layer : CoreLayer) (is_layer : IsLayerOf a turn.letter layer) where
     abbrev nodes : List ℕ
@@ -126,7 +133,7 @@ module _ (a : AskedMeaning) (are : AreRounds a.rounds) (network : IsNetwork a.ro
     legs_on [] i j t lt reached walk = subst₂ (λ x s. Reaches a (phase_node (node_at layer x) false) turn.state s) (sym walk) (omega arith) reached
     legs_on (hop ∷ hops) i j t lt reached (leads, walk) =
         let along = core.legs i hop.to hop.weight leads in
-        let next = hops_on along.hops (node_at layer i) (node_at layer hop.to) turn.state t turn.letter reached (letter_is i lt) is_turn.stays along.walk in
+        let next = hops_on (CoreLeads h) (λ u v w leads. (leads.0, inr (leads.1, leads.2))) along.hops (node_at layer i) (node_at layer hop.to) turn.state t turn.letter reached (letter_is i lt) is_turn.stays along.walk in
         let sum : (t + total along.hops) + total hops ≡ t + (hop.weight + total hops) = omega (arith, along.weighs) in
         subst (Reaches a (phase_node (node_at layer j) false) turn.state) sum (legs_on hops hop.to j (t + total along.hops) (ends_within i hop.to hop.weight leads).1 next walk)
 

@@ -11,9 +11,9 @@ pub mod Notes
 pub use Rows.{row_of, cell, never, HaveShape, AreLowered, IsRowLowered}
 pub use Asking.{Asked, AskedMeaning, asked_of, Reaches, IsLayerOf}
 pub use Climbs.{ClimbsTo, HasClimb, Climb, IsClimbedBy, AreClimbs, Rung, nodes_of_rungs, AreClimbDelays, IsClimbedBehind, IsPassed, IsClimbedFrom, AreClimbedAll, AreClimbsOf}
-pub use Firsts.{AreFirsts, IsStartLabel, AddsStarts}
+pub use Firsts.{AreFirstsOf, AreFirsts, IsStartLabel, IsFirstTurn, IsClimbIn, IsClimbLabel}
 pub use Walks.{Turn, IsTurn, AreTurns, node_at, IsWalkReached, AreWalksReached, IsWalkClosed, AreCrossingsReached, IsFed, IsReturned, IsWalked, AreWalkedBelow, AreWalksClosed, IsWalkOf, IsTakenIn, IsFedBy, IsGivenBack}
 pub use Visits.{crossing_node, IsCrossedBy, IsVisited, AreVisited, AreGivenCrossed, WayReaches, WayIsCrossed, AreCrossedOn, AreVisiting}
 pub use Settled.{HaveCrossed, HaveWalked, HaveRoom, AreSettled, IsWalkLabel, IsCrossingLabel, AreLabelsOf}
-pub use Listing.{AddsLabels, IsRowLabel}
+pub use Listing.{AddsLabels, IsOfAny, IsRowLabel}
 pub use Notes.{IsOfLabel, IsOfSource, IsNotedIn, IsNotedAt}

@@ -50,10 +50,10 @@ impl<L: RoadLabels> Asked<'_, L> {
     {
         self.rounds.network.known();
         self.rounds.hierarchy.known();
-        let Some(firsts) = self.firsts(alloc)? else {
+        let turns = self.turns(alloc)?;
+        let Some(firsts) = self.firsts(alloc, &turns)? else {
             return Ok(None);
         };
-        let turns = self.turns(alloc)?;
         let Some(reached) = self.reach(alloc, &firsts, &turns)? else {
             return Ok(None);
         };

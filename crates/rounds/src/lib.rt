@@ -1,5 +1,5 @@
-//! When product states are reached from the core of a hierarchy that is contracted once more: by rounds of walks all over the road
-//! layers of the core, which are sweeps, and of links and rides between them.
+//! When product states are reached over the core of a hierarchy that is contracted once more: by climbs from the starts, and by rounds
+//! of walks all over the road layers of the core, which are sweeps, and of links and rides between them.
 #![tactic(auto)]
 
 mod asked;

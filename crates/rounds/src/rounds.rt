@@ -97,8 +97,8 @@ impl<'a> Rounds<'a> {
     }
 
     /// All product states that are reached before any descent by walks that leave a start at `dep`, each with times at which it is, of
-    /// which one is the least. The starts are numbers of the phase graph. None where one of them is contracted, where a time may not fit
-    /// 32 bits as a delay, or where it takes very many rounds.
+    /// which one is the least. The starts are numbers of the phase graph. None where a time may not fit 32 bits as a delay, or where it
+    /// takes very many rounds.
     pub fn labels<L: RoadLabels>(
         &self,
         alloc: Global,

@@ -11,6 +11,10 @@ pub record AddsLabels (P : Label → Type 0) (before after : List Label) : Type 
   pub new : All (λ x. Contains before x ⊎ P x) after
   pub all : (x : Label) → P x → Contains after x
 
+-- P holds of the label for one of these
+abbrev pub IsOfAny : {X : Type 0} → (X → Label → Type 0) → List X → Label → Type 0
+IsOfAny {X} P xs x = (y : X) × Contains xs y × P y x
+
 -- the label of one of the first so many nodes that has a delay
 pub record IsRowLabel (nodes delays : List ℕ) (state dep count : ℕ) (x : Label) : Type 0 where
   pub place : ℕ

@@ -13,7 +13,7 @@ returns g c =
     let rows = c.in-Some-2.reached.crossings.items in
     let labels = c.in_ok-labels.labels.items in
     let firsts_are : AreFirsts a firsts = rw c.in-Some.is at c.in_ok-firsts.ensures in
-    let settled : AreSettled a c.deref.result.now c.deref-2.result.now walks rows = rw c.in-Some-2.is at c.in_ok-reached.ensures in
+    let settled : AreSettled a c.deref-2.result.now c.deref-3.result.now walks rows = rw c.in-Some-2.is at c.in_ok-reached.ensures in
     are_reached_labels (record {
       network = c.known.ensures;
       rules = c.known-2.ensures;
@@ -22,6 +22,6 @@ returns g c =
       road = g.met.L.RoadLabels.road_law c.args.self.now.machine.now.labels;
       firsts_are = firsts_are;
       turns_are = c.in_ok-turns.ensures;
-      settled = subst₂ (λ (xs : List Label) (ts : List Turn). AreSettled a xs ts walks rows) c.deref.ensures.value c.deref-2.ensures.value settled;
-      labels_are = subst (λ (ts : List Turn). AreLabelsOf a firsts ts walks rows labels) c.deref-3.ensures.value c.in_ok-labels.ensures;
+      settled = subst₂ (λ (xs : List Label) (ts : List Turn). AreSettled a xs ts walks rows) c.deref-2.ensures.value c.deref-3.ensures.value settled;
+      labels_are = subst (λ (ts : List Turn). AreLabelsOf a firsts ts walks rows labels) c.deref-4.ensures.value c.in_ok-labels.ensures;
     })
