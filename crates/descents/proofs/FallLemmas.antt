@@ -1,32 +1,20 @@
 -- A walk for some targets ends before any descent, as one for no targets does, or entries lead down from where such a one is; and conversely.
-use Rattle.plan_base.proofs.Common.{◌≡◌, ℕ, zero, suc, ◌+◌, ◌<◌, ◌≤◌, ◌⊎◌, inl, inr, Bool, true, false, cond, List, [], ◌∷◌, ◌++◌, Option, Some, refl, sym, ◌∙◌, ap, subst, subst₂, arith, append_assoc, append-nil, option_to_list, lt-ltb, IsTrue, Contains, Contains-append_left}
+use Rattle.plan_base.proofs.Common.{◌≡◌, ℕ, zero, suc, ◌+◌, ◌<◌, ◌≤◌, ◌⊎◌, inl, inr, Bool, true, false, cond, List, [], ◌∷◌, ◌++◌, Option, Some, refl, sym, ◌∙◌, ap, subst, subst₂, arith, lt-ltb, IsTrue, Contains, Contains-append_left}
 use Rattle.plan_base.specs.{number_of_mode}
-use Rattle.search_laws.specs.{GraphMeaning, LabelsMeaning, IsLawfulLabels, IsRoadLabels, HasMove, Reads, Follows, WalkStep, wait, arc, IsWalk, word_from, ArrivesAt}
-use Rattle.search_laws.proofs.WalkLemmas.{split_read, reads_more, reads_one}
+use Rattle.search_laws.specs.{GraphMeaning, LabelsMeaning, IsLawfulLabels, IsRoadLabels, HasMove, Reads, Follows, IsWalk, word_from, ArrivesAt}
+use Rattle.search_laws.proofs.WalkLemmas.{split_read}
 use Rattle.product_search.specs.{IsReachedAt}
 use Rattle.mode_network.specs.{NetworkLists.NetworkLists, letter_at, IsNetwork}
 use Rattle.mode_network.proofs.RuleLemmas.{letter_of, letter_is_road}
 use Rattle.hierarchy.specs.{Hop, AreHops, total, IsDescent, HierarchyLists, height_in, is_contracted, IsContracted, HasEntry, IsHierarchy, IsSound}
 use Rattle.hierarchy.proofs.{HeightLemmas.height_most, HopLemmas.hops_then, HopLemmas.hops_weaker, HopLemmas.total-append, PlaceLemmas.Contains-map, SoundLemmas.fits}
 use Rattle.phase_graph.specs.{PhaseMove, rest, rise, fall, cross, stand, IsMarked, IsPhaseMove, AreMoves, HasMoves, phase_node, node_of, IsPhaseGraph, IsInUse, starts_in, target_numbers}
-use Rattle.phase_graph.proofs.{ArcLemmas.walk_of, ArcLemmas.moves_of, GraphLemmas.half, GraphMoves.is_phase_graph, InUseLemmas.ends_under, MoveLemmas.same_mode}
+use Rattle.phase_graph.proofs.{ArcLemmas.moves_of, GraphLemmas.half, GraphMoves.is_phase_graph, InUseLemmas.ends_under, MoveLemmas.same_mode}
 use Rattle.sweeps.proofs.EntryLemmas.{Contains-from_map}
+use Rattle.rounds.proofs.MoveLemmas.{reached_on, reached_state}
 use Rattle.descents.specs.Falls.{EntryLeadsDown, IsEndAt, DescendsBy}
 
 -- ---- walks
-
--- one walk, and then another
-walk_then : (g : GraphMeaning) (walk more : List WalkStep) (v t w u x y : ℕ) → IsWalk g v t walk w u → IsWalk g w u more x y → IsWalk g v t (walk ++ more) x y
-walk_then g [] more v t w u x y (there, now) next = subst₂ (λ p s. IsWalk g p s more x y) there now next
-walk_then g (wait at ∷ walk) more v t w u x y (later, leads) next = (later, walk_then g walk more v at w u x y leads next)
-walk_then g (arc i ∷ walk) more v t w u x y (at, has, arrives, leads) next = (at, has, arrives, walk_then g walk more (g.arc_at v i).to at w u x y leads next)
-
-word_then : (g : GraphMeaning) (walk more : List WalkStep) (v t w u : ℕ) → IsWalk g v t walk w u → word_from g v (walk ++ more) ≡ word_from g v walk ++ word_from g w more
-word_then g [] more v t w u (there, now) = ap (λ p. word_from g p more) (sym there)
-word_then g (wait at ∷ walk) more v t w u (later, leads) = word_then g walk more v at w u leads
-word_then g (arc i ∷ walk) more v t w u (at, has, arrives, leads) =
-    let first : List ℕ = option_to_list (g.arc_at v i).letter in
-    ap (λ x. first ++ x) (word_then g walk more (g.arc_at v i).to at w u leads) ∙ sym (append_assoc first (word_from g (g.arc_at v i).to walk) (word_from g w more))
 
 module _ (n : NetworkLists) (h : HierarchyLists) (targets : List ℕ) (g : GraphMeaning) (is : IsPhaseGraph n h targets g) (l : LabelsMeaning) (origins : List ℕ) (dep : ℕ) where
   abbrev Reached : ℕ → ℕ → ℕ → Type 0
@@ -44,25 +32,6 @@ module _ (n : NetworkLists) (h : HierarchyLists) (targets : List ℕ) (g : Graph
     walk = (refl, refl);
     reads = refl;
   }
-
-  -- and where a move leads from what is reached
-  reached_on : (move : PhaseMove) (v : ℕ) (down : Bool) (t q w : ℕ) (end : Bool) (u r : ℕ) (letter : Option ℕ) → Reached (phase_node v down) q t
-      → IsPhaseMove n h targets v down t move w end u letter → Follows l q letter r → Reached (phase_node w end) r u
-  reached_on move v down t q w end u r letter reached done follows =
-      let told : List ℕ = option_to_list letter in
-      let before : List ℕ = word_from g reached.start reached.steps in
-      let walk = walk_of n h targets g is (move ∷ []) v down t w end u told (w, end, u, letter, [], done, (refl, refl, refl, refl), sym (append-nil told)) in
-      record {
-        start = reached.start;
-        first = reached.first;
-        steps = reached.steps ++ walk.steps;
-        starts_there = reached.starts_there;
-        is_state = reached.is_state;
-        is_start = reached.is_start;
-        walk = walk_then g reached.steps walk.steps reached.start dep (phase_node v down) t (phase_node w end) u reached.walk walk.walk;
-        reads = subst (λ x. Reads l reached.first x r) (sym (word_then g reached.steps walk.steps reached.start dep (phase_node v down) t reached.walk ∙ ap (λ x. before ++ x) walk.word_is))
-            (reads_more l before told reached.first q r reached.reads (reads_one l letter q r follows));
-      }
 
   -- what is known of the starts, and of where each move leads from what it is known of, is known of all that is reached
   module _ (Known : ℕ → Bool → ℕ → ℕ → Type 0) (begins : (v q : ℕ) → Contains origins v → q < l.states → IsTrue (l.is_start q) → Known v false dep q)
@@ -114,10 +83,6 @@ module _ (n : NetworkLists) (h : HierarchyLists) (network : IsNetwork n) (rules 
   is_phases : (some : List ℕ) (x : GraphMeaning) → IsInUse n (Some h) some x → IsPhaseGraph n h some x
   is_phases some x in_use = subst (IsPhaseGraph n h some) (sym in_use.is) (is_phase_graph n h some network rules sound in_use.table in_use.keeps in_use.of in_use.marks in_use.are)
 
-  in_range : (word : List ℕ) (q r : ℕ) → q < l.states → Reads l q word r → r < l.states
-  in_range [] q r within same = subst (λ s. s < l.states) (sym same) within
-  in_range (c ∷ word) q r within (p, (i, move), reads) = in_range word p r (subst (λ s. s < l.states) move.to (lawful.to_in_range q i within move.place)) reads
-
   -- ---- from all walks
 
   -- a node before any descent is reached in a state q, and from there entries lead down to w, which has the same mode, at t
@@ -142,7 +107,6 @@ module _ (n : NetworkLists) (h : HierarchyLists) (network : IsNetwork n) (rules 
       → Follows l q letter r → s + total more ≤ u → Known x end u r
   leads_on mode w s q p more x end u r letter low walk here is follows late =
       let move : HasMove l q mode r = subst (λ o. Follows l q o r) is follows in
-      let from = p.reached in
       inr (
         low,
         mode,
@@ -154,17 +118,17 @@ module _ (n : NetworkLists) (h : HierarchyLists) (network : IsNetwork n) (rules 
           hops = p.hops ++ more;
           letter = p.letter;
           here = here;
-          reached = reached_on n h [] g (is_phases [] g above) l origins dep stand p.top false p.at q p.top false p.at r (Some mode) p.reached (mode, p.letter, refl, refl, refl, refl) move;
+          reached = reached_on n h [] g (is_phases [] g above) l (starts_in (Some h) origins) dep stand p.top false p.at q p.top false p.at r (Some mode) p.reached (mode, p.letter, refl, refl, refl, refl) move;
           descent = hops_then (EntryLeadsDown h) p.hops more p.top w x p.descent walk;
           arrives = omega (arith, p.arrives, total-append p.hops more);
         },
-        road.again q mode r (in_range (word_from g from.start from.steps) from.first q from.is_state from.reads) (letter_is_road n network p.top mode p.letter).1 move,
+        road.again q mode r (reached_state g l lawful (starts_in (Some h) origins) dep (phase_node p.top false) q p.at p.reached) (letter_is_road n network p.top mode p.letter).1 move,
       )
 
   -- a move that does not lead down
   moved : (move : PhaseMove) (w : ℕ) (down : Bool) (t q x : ℕ) (end : Bool) (u r : ℕ) (letter : Option ℕ) → ReachedBefore (phase_node w down) q t
       → IsPhaseMove n h [] w down t move x end u letter → Follows l q letter r → end ≡ false → Known x end u r
-  moved move w down t q x end u r letter reached done follows high = inl (high, reached_on n h [] g (is_phases [] g above) l origins dep move w down t q x end u r letter reached done follows)
+  moved move w down t q x end u r letter reached done follows high = inl (high, reached_on n h [] g (is_phases [] g above) l (starts_in (Some h) origins) dep move w down t q x end u r letter reached done follows)
 
   step : (move : PhaseMove) (w : ℕ) (down : Bool) (t q x : ℕ) (end : Bool) (u r : ℕ) (letter : Option ℕ) → Known w down t q → IsPhaseMove n h targets w down t move x end u letter → Follows l q letter r
       → Known x end u r
@@ -223,7 +187,7 @@ module _ (n : NetworkLists) (h : HierarchyLists) (network : IsNetwork n) (rules 
   reached_all p q t reached =
       let is = is_phases targets k all in
       let found = reached_known n h [] g (is_phases [] g above) l origins dep (λ w down s r. ReachedByAll (phase_node w down) r s) (reached_first n h targets k is l origins dep)
-      (λ move w down s r x end u r2 letter known done follows. reached_on n h targets k is l origins dep move w down s r x end u r2 letter known (for_any n h targets move w down s x end u letter done) follows)
+      (λ move w down s r x end u r2 letter known done follows. reached_on n h targets k is l (starts_in (Some h) origins) dep move w down s r x end u r2 letter known (for_any n h targets move w down s x end u letter done) follows)
       p q t reached in
       subst (λ x. ReachedByAll x q t) (sym found.2) found.3
 
@@ -261,4 +225,4 @@ module _ (n : NetworkLists) (h : HierarchyLists) (network : IsNetwork n) (rules 
           let marked : IsMarked h targets hop.to = record { end = v; hops = hops; ends_there = there; chain = hops_weaker (EntryLeadsDown h) (HasEntry h.entries) (λ a b w leads. leads.0) hops hop.to v walk; falls = descends h hops hop.to v walk } in
           let follows : Follows l d.state (letter_at n.roads u) d.state = subst (λ o. Follows l d.state o d.state) (sym letter) d.stays in
           falls hops hop.to true (s + hop.weight) walk (same_mode n h sound targets u hop.to hop.weight d.mode entry letter) (λ is. omega (arith, lower, height_most h.order u)) (omega (arith, sum))
-          (reached_on n h targets k (is_phases targets k all) l origins dep (fall hop) u down s d.state hop.to true (s + hop.weight) d.state (letter_at n.roads u) reached (entry, lower, marked, refl, refl, refl, refl) follows)
+          (reached_on n h targets k (is_phases targets k all) l (starts_in (Some h) origins) dep (fall hop) u down s d.state hop.to true (s + hop.weight) d.state (letter_at n.roads u) reached (entry, lower, marked, refl, refl, refl, refl) follows)

@@ -2,7 +2,8 @@
 use Rattle.plan_base.proofs.Common.{◌≡◌, ◌∙◌, ℕ, zero, suc, ◌<◌, ◌≤◌, Bool, List, [], ◌∷◌, None, Some, inl, inr, sym, ap, subst, arith, IsTrue, Contains, cond, cases_eq, length-map, get_or-map, Contains-append_left, Contains-append_right}
 use Rattle.search_laws.specs.{GraphMeaning, HasArc, IsLawfulGraph, LabelsMeaning, AllAfter}
 use Rattle.search_laws.proofs.WalkLemmas.{walk_known}
-use Rattle.product_search.specs.{Label, IsReachedAt, IsListedBy, IsClosed, ArcIsListed, label_of, start_states, start_pairs, pairs_at}
+use Rattle.product_search.specs.{Label, IsReachedAt, IsListedBy, IsClosed, ArcIsListed, label_of, start_states, start_pairs, pairs_at, AreLeastLabels}
+use Rattle.rounds.specs.{AreReachedLabels}
 
 states_contain : (l : LabelsMeaning) (n q : ℕ) → q < n → IsTrue (l.is_start q) → Contains (start_states l n) q
 states_contain l zero q lt is = absurd (omega arith)
@@ -33,8 +34,12 @@ module _ (g : GraphMeaning) (lawful : IsLawfulGraph g) (l : LabelsMeaning) (star
   known_closed t v q s i a (k, lt, is) has e early by =
       subst (λ (x : Label). (i : ℕ) → i < g.arcs x.node → ArcIsListed g l None list x i) is (closed.arcs_listed k lt (label_of v q s)) i has.arc a e tt
 
-  pub listed : (v q t : ℕ) → IsReachedAt g l starts dep v q t → IsListedBy list v q t
+  listed : (v q t : ℕ) → IsReachedAt g l starts dep v q t → IsListedBy list v q t
   listed v q t r =
       let pair = pairs_contain l starts r.start r.first r.starts_there r.is_state r.is_start in
       let first = subst (λ p. IsListedBy list p.0 p.1 dep) pair.2 (closed.starts_listed pair.0 pair.1 (r.start, r.first) tt) in
       walk_known g lawful l t Known (known_closed t) r.steps r.start r.first dep v q r.walk r.reads (first.0, first.1, first.2)
+
+  -- so the least labels are all that walks reach
+  pub all_reached : AreLeastLabels g l starts dep None None list → AreReachedLabels g l starts dep list
+  all_reached least = record { reached = λ k d lt. (least.least k d lt).0.reached; all = listed }

@@ -4,14 +4,17 @@ use Rattle.search_laws.specs.{GraphMeaning, LabelsMeaning, IsLawfulLabels, IsRoa
 use Rattle.mode_network.specs.{NetworkLists.NetworkLists, IsNetwork, nodes_of}
 use Rattle.hierarchy.specs.{Hop, AreHops, total, HierarchyLists, IsContracted, IsHierarchy, IsSound, falls_into}
 use Rattle.hierarchy.proofs.{HeightLemmas.height_most, PlaceLemmas.Contains-map}
-use Rattle.product_search.specs.{Label, IsReachedAt, IsListedBy, IsClosed, AreLeastLabels, IsArrival}
+use Rattle.product_search.specs.{Label, IsReachedAt, IsArrival}
+use Rattle.product_search.proofs.ClosureLemmas.{walk_stays}
 use Rattle.phase_graph.specs.{phase_node, node_of, IsInUse, starts_in, target_numbers}
 use Rattle.phase_graph.proofs.InUseLemmas.{graphs_in_use_are_lawful, starts_under}
 use Rattle.sweeps.specs.{Slope, LeadsDown, HasRoom, IsSlopeOf, time_at, AreWalked, AreClosed, leg_by, row_at, Layers.origin, Layers.origin_of}
 use Rattle.sweeps.proofs.{EntryLemmas.Contains-from_map, EntryLemmas.entry_fall, EntryLemmas.fall_entry, EntryLemmas.hop_by, LayerLemmas.HasHops}
+use Rattle.rounds.specs.{AreReachedLabels}
 use Rattle.descents.specs.{EntryLeadsDown, IsEndAt, DescendsBy, AreNodeArrivals, IsServedOn}
-use Rattle.descents.specs.inside.{EndsAt, GoesOnAt, IsFirst, AreDelays, AreSwept, IsTimeAfter, IsDelayAt, AreTimesAfter, Delaying.Delays}
-use Rattle.descents.proofs.{ListedLemmas.listed, FallLemmas.ends_or_descends, FallLemmas.end_arrives, FallLemmas.descent_arrives}
+use Rattle.descents.specs.inside.{IsKnownLabel, EndsAt, GoesOnAt, IsFirst, AreDelays, AreSwept, IsTimeAfter, IsDelayAt, AreTimesAfter, Delaying.Delays}
+use Rattle.rounds.proofs.MoveLemmas.{reached_state}
+use Rattle.descents.proofs.{FallLemmas.ends_or_descends, FallLemmas.end_arrives, FallLemmas.descent_arrives}
 
 -- ---- descents over entries and over the legs of a slope
 
@@ -99,16 +102,13 @@ arrival_is g l starts ends dep delay (Some a) first (some, at) = (
 
 module _ (n : NetworkLists) (h : HierarchyLists) (network : IsNetwork n) (rules : IsHierarchy h) (sound : IsSound n h) (l : LabelsMeaning) (lawful : IsLawfulLabels l) (road : IsRoadLabels l)
     (g : GraphMeaning) (above : IsInUse n (Some h) [] g) (s : Slope) (slope : IsSlopeOf h s.nodes.items s) (origins : List ℕ) (dep : ℕ) (labels : List Label)
-    (least : AreLeastLabels g l (starts_in (Some h) origins) dep None None labels) (closed : IsClosed g l (starts_in (Some h) origins) [] dep None labels)
+    (reach : AreReachedLabels g l (starts_in (Some h) origins) dep labels)
     (small : (x : Label) → Contains labels x → x.at < dep + (2 ^ 32 - 1)) where
   abbrev starts : List ℕ
   starts = starts_in (Some h) origins
 
   label_reached : (x : Label) → Contains labels x → IsReachedAt g l starts dep x.node x.state x.at
-  label_reached x (k, lt, at) = subst (λ (y : Label). IsReachedAt g l starts dep y.node y.state y.at) at (least.least k x lt).0.reached
-
-  find : (v q t : ℕ) → IsReachedAt g l starts dep v q t → IsListedBy labels v q t
-  find = listed g (graphs_in_use_are_lawful n network (Some h) (rules, sound) [] g above) l starts dep labels closed
+  label_reached x there = All-contains (λ (y : Label). IsReachedAt g l starts dep y.node y.state y.at) labels x reach.reached there
 
   -- the first of some labels is no later than one of them, and so not never
   first_by : (P : Label → Type 0) (delay : ℕ) → IsFirst P dep labels delay → (x : Label) → Contains labels x → P x → (delay < 2 ^ 32 - 1) × (dep + delay ≤ x.at)
@@ -116,7 +116,7 @@ module _ (n : NetworkLists) (h : HierarchyLists) (network : IsNetwork n) (rules 
 
   end_by : (v delay t : ℕ) → IsFirst (EndsAt l v) dep labels delay → IsEndAt g l starts dep v t → (delay < 2 ^ 32 - 1) × (dep + delay ≤ t)
   end_by v delay t first end =
-      let found = find (phase_node v false) end.state t end.reached in
+      let found = reach.all (phase_node v false) end.state t end.reached in
       let by = first_by (EndsAt l v) delay first _ found.2 (refl, end.accepts) in
       (by.0, omega (arith, by.1, found.1))
 
@@ -136,7 +136,7 @@ module _ (n : NetworkLists) (h : HierarchyLists) (network : IsNetwork n) (rules 
     descent_by : (j t : ℕ) → j < length s.nodes.items → DescendsBy n h g l starts dep (slice_index s.nodes.items j) t → (time_at after j < 2 ^ 32 - 1) × (dep + time_at after j ≤ t)
     descent_by j t lt d =
         let from = falls_start h s slope d.hops d.top j lt d.descent in
-        let found = find (phase_node d.top false) d.state d.at d.reached in
+        let found = reach.all (phase_node d.top false) d.state d.at d.reached in
         let first = subst (λ v. IsFirst (GoesOnAt n l v) dep labels (time_at tops from.place)) from.at (firsts from.place from.within) in
         let by = first_by (GoesOnAt n l d.top) (time_at tops from.place) first _ found.2 ((refl, d.accepts), (d.mode, d.letter, d.stays)) in
         let top = walked.no_later from.place in
@@ -216,18 +216,28 @@ starts_within n h g in_use origins within k d lt =
     let count : g.nodes ≡ 2 * length (nodes_of n) = ap (λ (x : GraphMeaning). x.nodes) in_use.is in
     omega arith
 
+-- labels of what is reached are at nodes of the phase graph, in states of the automaton
+pub labels_known : (n : NetworkLists) (h : HierarchyLists) → IsNetwork n → IsHierarchy h → IsSound n h → (l : LabelsMeaning) → IsLawfulLabels l → (g : GraphMeaning) → IsInUse n (Some h) [] g → (origins : List ℕ) (dep : ℕ) (labels : List Label)
+    → All (λ v. v < length (nodes_of n)) origins → AreReachedLabels g l (starts_in (Some h) origins) dep labels → All (IsKnownLabel n l) labels
+labels_known n h network rules sound l lawful g in_use origins dep labels within reach k d lt =
+    let r = reach.reached k d lt in
+    let graph = graphs_in_use_are_lawful n network (Some h) (rules, sound) [] g in_use in
+    let count : g.nodes ≡ 2 * length (nodes_of n) = ap (λ (x : GraphMeaning). x.nodes) in_use.is in
+    let start = All-contains (λ p. p < g.nodes) (starts_in (Some h) origins) r.start (starts_within n h g in_use origins within) r.starts_there in
+    (subst (λ m. (slice_index_or labels k d).node < m) count (walk_stays g graph l lawful r.steps r.start dep _ _ start r.walk), reached_state g l lawful (starts_in (Some h) origins) dep _ _ _ r)
+
 -- the times at the nodes of numbers are the arrivals there
 pub node_arrivals : (n : NetworkLists) (h : HierarchyLists) → IsNetwork n → IsHierarchy h → IsSound n h → (l : LabelsMeaning) → IsLawfulLabels l → IsRoadLabels l → (g : GraphMeaning) → IsInUse n (Some h) [] g
     → (s : Slope) → IsSlopeOf h s.nodes.items s → (origins : List ℕ) (dep : ℕ) (labels : List Label)
-    → AreLeastLabels g l (starts_in (Some h) origins) dep None None labels → IsClosed g l (starts_in (Some h) origins) [] dep None labels → (d : Delays) → AreDelays n s.nodes.items l dep labels d
+    → AreReachedLabels g l (starts_in (Some h) origins) dep labels → (d : Delays) → AreDelays n s.nodes.items l dep labels d
     → (after : List ℕ) → AreSwept s d.tops.items after → (ends : List ℕ) → All (λ p. IsServedOn n h s.nodes.items (node_of p)) ends → (times : List (Option ℕ)) → AreTimesAfter s.nodes.items d.ends.items after dep ends times
     → AreNodeArrivals n h l (starts_in (Some h) origins) dep ends times
-node_arrivals n h network rules sound l lawful road g above s slope origins dep labels least closed d delays after swept ends served times are = record {
+node_arrivals n h network rules sound l lawful road g above s slope origins dep labels reach d delays after swept ends served times are = record {
   one_each = are.one_each;
   are = λ k lt targets all in_use there. (
       let v = node_of (slice_index ends k) in
       let here = served k 0 lt in
-      node_arrival n h network rules sound l lawful road g above s slope origins dep labels least closed delays.small d.tops.items after delays.tops swept.walked swept.closed swept.room
+      node_arrival n h network rules sound l lawful road g above s slope origins dep labels reach delays.small d.tops.items after delays.tops swept.walked swept.closed swept.room
       v here d.ends.items (delays.ends v here.0) targets all in_use there (slice_index_or times k None) (are.are k lt)
       );
 }

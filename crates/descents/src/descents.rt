@@ -1,7 +1,9 @@
-//! Times all over a network by one search and one sweep.
+//! Times all over a network by one search or by rounds, and one sweep.
 
-ghost use Rattle.std.specs.Prelude.{IsTrue};
+ghost use Rattle.std.specs.Prelude.{IfOk, IfSome, IsTrue};
 ghost use Rattle.hierarchy.specs.Soundness.{IsSound};
+ghost use Rattle.cores.specs.{IsSoundOnCore};
+ghost use Rattle.descents.specs.Over.{AreRoundsOver};
 ghost use Rattle.descents.specs.Served.{IsServedOn};
 
 use crate::above::nodes_above;
@@ -10,11 +12,14 @@ use hierarchy::Hierarchy;
 use mode_network::Network;
 use phase_graph::{GraphInUse, MarkTable};
 use product_search::{Label, Machine, Question, search};
+use rounds::Rounds;
 use search_laws::{Labels, RoadLabels, Time};
 use std::alloc::{AllocError, Global};
 use sweeps::Slope;
 
 /// The ways up and along the core of a hierarchy, and those down from there to some targets.
+///
+/// Where the core is contracted once more, rounds find what is reached up and along it, else a search does.
 #[derive(Drop)]
 pub struct Descents<'a> {
     pub network: &'a Network,
@@ -23,25 +28,31 @@ pub struct Descents<'a> {
     graph: GraphInUse<'a>,
     /// The nodes from which something leads down to the targets.
     slope: Slope,
+    /// The rounds over the core, if it is contracted.
+    rounds: Option<Rounds<'a>>,
 }
 
 impl<'a> Descents<'a> {
     ghost use Rattle.std.specs.Prelude.{◌≡◌, ◌<◌, ◌^◌, [], All, None, IfOk, IfSome, length};
+    ghost use Rattle.cores.specs.{IsSoundOnCore};
     ghost use Rattle.descents.specs.Descents.{AreDescents, IsServed, AreStarts};
     ghost use Rattle.descents.specs.NodeArrivals.{AreNodeArrivals};
     ghost use Rattle.phase_graph.specs.{PhaseArcs.node_of, InUseGraph.meaning_in_use};
     ghost use Rattle.product_search.specs.{Listed.AreLeastLabels, Closed.IsClosed};
-    ghost use Rattle.descents.specs.inside.Delaying.{AreSwept, IsDelayAt, AreTimesAfter};
+    ghost use Rattle.descents.specs.inside.Delaying.{AreReachedBefore, AreSwept, IsDelayAt, AreTimesAfter};
 
-    /// The descents of a hierarchy, which is sound for the network, to some targets. None where one of these is no node of the network,
-    /// or where an entry that leads down to them takes 2^32 ms or longer.
+    /// The descents of a hierarchy, which is sound for the network, to some targets, and over one of its core, if there is one, which
+    /// is sound for the network of that. None where one of the targets is no node of the network, or where an entry that leads down to
+    /// them takes 2^32 ms or longer.
     pub fn new(
         alloc: Global,
         network: &'a Network,
         hierarchy: &'a Hierarchy,
+        core: Option<&Hierarchy>,
         targets: &[u32],
     ) -> Result<Option<Descents<'a>>, AllocError>
-        requires { IsSound network.now hierarchy.now }
+        requires sound { IsSound network.now hierarchy.now }
+        requires core { IfSome core (λ k. IsSoundOnCore network.now hierarchy.now k.now) }
         ensures is { IfOk result (λ made. IfSome made AreDescents) }
         ensures network { IfOk result (λ made. IfSome made (λ d. d.network.now ≡ network.now)) }
         ensures hierarchy { IfOk result (λ made. IfSome made (λ d. d.hierarchy.now ≡ hierarchy.now)) }
@@ -59,11 +70,13 @@ impl<'a> Descents<'a> {
         }
         let mut marks = MarkTable::new(alloc);
         let graph = GraphInUse::new(alloc, &mut marks, network, Some(hierarchy), &[])?;
+        let rounds = rounds_over(alloc, network, hierarchy, core)?;
         Ok(Some(Descents {
             network,
             hierarchy,
             graph,
             slope,
+            rounds,
         }))
     }
 
@@ -107,8 +120,34 @@ impl<'a> Descents<'a> {
         Ok(Some(times))
     }
 
-    /// The least arrivals of all product states that are reached before any descent.
-    fn labels<L: Labels>(
+    /// All product states that are reached before any descent, each with times at which it is, of which one is the least: by the
+    /// rounds, if there are some and they answer, else by a search.
+    fn labels<L: RoadLabels>(
+        &self,
+        alloc: Global,
+        machine: &Machine<L>,
+        starts: &[u32],
+        dep: Time,
+    ) -> Result<Vec<Label>, AllocError>
+        requires is { AreDescents self.now }
+        requires starts { AreStarts self.now starts.now }
+        requires early { dep < 2 ^ 64 }
+        ensures { IfOk result (λ labels. AreReachedBefore self.now.network.now self.now.hierarchy.now
+            (L.automaton machine.now.labels) starts.now dep labels.items) }
+    {
+        if let Some(rounds) = &self.rounds {
+            if let Some(labels) = rounds.labels(alloc, machine, starts, dep)? {
+                return Ok(labels);
+            }
+        }
+        self.network.known();
+        self.hierarchy.known();
+        let labels = self.searched(alloc, machine, starts, dep)?;
+        Ok(labels)
+    }
+
+    /// The least arrivals of all product states that are reached before any descent, by a search.
+    fn searched<L: Labels>(
         &self,
         alloc: Global,
         machine: &Machine<L>,
@@ -186,6 +225,23 @@ impl<'a> Descents<'a> {
         } else {
             Some(dep + Time::from(delay))
         }
+    }
+}
+
+/// The rounds over a hierarchy and one of its core, if there is one and there are such rounds.
+fn rounds_over<'a>(
+    alloc: Global,
+    network: &'a Network,
+    hierarchy: &'a Hierarchy,
+    core: Option<&Hierarchy>,
+) -> Result<Option<Rounds<'a>>, AllocError>
+    requires sound { IsSound network.now hierarchy.now }
+    requires core { IfSome core (λ k. IsSoundOnCore network.now hierarchy.now k.now) }
+    ensures { IfOk result (λ made. IfSome made (AreRoundsOver network.now hierarchy.now)) }
+{
+    match core {
+        Some(core) => Rounds::new(alloc, network, hierarchy, core),
+        None => Ok(None),
     }
 }
 

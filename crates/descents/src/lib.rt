@@ -1,4 +1,5 @@
-//! When nodes all over a network are reached over a hierarchy: by one search that goes up and along the core, and one sweep down.
+//! When nodes all over a network are reached over a hierarchy: by one search that goes up and along the core, or
+//! rounds over it, and one sweep down.
 #![tactic(auto)]
 
 mod above;

@@ -1,11 +1,19 @@
 -- Delays after a departure, as labels have them.
-use Rattle.std.specs.Prelude.{◌≡◌, ℕ, ◌+◌, ◌-◌, ◌*◌, ◌<◌, ◌≤◌, ◌⊎◌, ◌^◌, false, List, length, Contains, Option, Some, None, IsTrue, slice_index, slice_index_or, min}
-use Rattle.search_laws.specs.{LabelsMeaning, HasMove}
+use Rattle.std.specs.Prelude.{◌≡◌, ℕ, ◌+◌, ◌-◌, ◌*◌, ◌<◌, ◌≤◌, ◌⊎◌, ◌^◌, false, List, [], length, Contains, Option, Some, None, IsTrue, slice_index, slice_index_or, min}
+use Rattle.search_laws.specs.{GraphMeaning, LabelsMeaning, HasMove}
 use Rattle.mode_network.specs.{NetworkLists.NetworkLists, letter_at, nodes_of}
+use Rattle.hierarchy.specs.{HierarchyLists}
 use Rattle.product_search.specs.{declared.label.Label.Label}
-use Rattle.phase_graph.specs.{phase_node, node_of}
+use Rattle.phase_graph.specs.{phase_node, node_of, IsInUse}
+use Rattle.rounds.specs.{AreReachedLabels}
 use Rattle.sweeps.specs.{Slope, LeadsDown, HasRoom, time_at, AreWalked, AreClosed}
 pub use Rattle.descents.specs.declared.delays.Delays.{Delays}
+
+-- all that walks reach before any descent, as labels: over a phase graph for no targets
+pub record AreReachedBefore (n : NetworkLists) (h : HierarchyLists) (l : LabelsMeaning) (starts : List ℕ) (dep : ℕ) (labels : List Label) : Type 0 where
+  pub graph : GraphMeaning
+  pub in_use : IsInUse n (Some h) [] graph
+  pub are : AreReachedLabels graph l starts dep labels
 
 -- the label is at a node of the phase graph, in a state of the automaton
 abbrev pub IsKnownLabel : NetworkLists → LabelsMeaning → Label → Type 0
