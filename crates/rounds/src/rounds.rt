@@ -32,7 +32,7 @@ pub struct Rounds<'a> {
     pub(crate) graph: GraphInUse<'a>,
     /// The layers of the core, by the letters of their modes.
     pub(crate) layers: Vec<CoreLayer>,
-    /// The nodes of the core that links or rides leave, and all stops and switches.
+    /// The nodes of the core with a link or with rides, and all stops and switches.
     pub(crate) crossings: Vec<u32>,
     /// For each number of a node its place among the crossings, if it has one.
     pub(crate) crossing_places: Vec<u32>,
@@ -138,7 +138,7 @@ fn longest_along(hierarchy: &Hierarchy) -> Option<u32>
     Some(longest)
 }
 
-/// The nodes that links or rides may leave, and all that are no road nodes. None where one of them is contracted.
+/// The nodes with a link or that rides may leave, and all that are no road nodes. None where one of them is contracted.
 fn crossings_of(
     alloc: Global,
     network: &Network,
@@ -164,8 +164,19 @@ fn crossings_of(
     Ok(Some(crossings))
 }
 
-/// Whether a node is a road node that nothing leaves but entries and what stands.
+/// Whether a node is a road node without links, which nothing leaves but entries and what stands. One that links lead to alone could be
+/// quiet as well, but rounds go from crossing to crossing.
 fn is_quiet(network: &Network, graph: &GraphInUse<'_>, v: u32) -> bool
+    requires node { v < length (nodes_of network.now) }
+    requires nodes { (meaning_in_use graph.now).nodes ≡ 2 * length (nodes_of network.now) }
+    ensures { IsTrue result → IsQuiet network.now (meaning_in_use graph.now) v
+        (steady_in_use graph.now (phase_node v false)) }
+{
+    !network.has_link(v) && is_left_by_nothing(network, graph, v)
+}
+
+/// Whether a node is a road node that nothing leaves but entries and what stands.
+fn is_left_by_nothing(network: &Network, graph: &GraphInUse<'_>, v: u32) -> bool
     requires node { v < length (nodes_of network.now) }
     requires nodes { (meaning_in_use graph.now).nodes ≡ 2 * length (nodes_of network.now) }
     ensures { IsTrue result → IsQuiet network.now (meaning_in_use graph.now) v

@@ -2,7 +2,7 @@ use Rattle.plan_base.proofs.Common.{◌∙◌, ap, false, sym, is_some, not-true
 use Rattle.phase_graph.specs.{phase_node}
 use Rattle.phase_graph.specs.InUseGraph.{lawful_in_use, meaning_in_use, rides_in_use, steady_in_use}
 use Rattle.rounds.proofs.CrossingLemmas.{quiet}
-use Rattle.rounds.proofs.rounds.is_quiet.Goals as goal
+use Rattle.rounds.proofs.rounds.is_left_by_nothing.Goals as goal
 
 pub returns-then-is_some : goal.returns-then-is_some
 returns-then-is_some c = λ yes.
