@@ -5,6 +5,7 @@ use Rattle.search_laws.specs.{GraphMeaning, LabelsMeaning}
 use Rattle.product_search.specs.{IsArrival}
 use Rattle.hierarchy.specs.{declared.hierarchy.Hierarchy.Hierarchy, HierarchyLists}
 use Rattle.phase_graph.specs.{IsInUse, IsSoundIfGiven, starts_in, ends_in, meaning_in_use}
+use Rattle.cores.specs.{IsSoundOnCore}
 use Rattle.descents.specs.{declared.descents.Descents.Descents, AreDescents, IsServed}
 use Rattle.mode_network.specs.NetworkLists.{NetworkLists}
 use Rattle.journey.specs.{Query, AreTheCopies}
@@ -43,6 +44,12 @@ pub record AreListed (n : NetworkLists) (h : Option HierarchyLists) (queries : L
   pub one_each : length l.parts.items ≡ length queries
   pub numbers_are : l.numbers.items ≡ ends_in h l.targets.items
   pub are : ArePartsFor n h l.targets.items l.numbers.items queries l.parts.items (length queries)
+
+-- where there is a hierarchy, and one of its core, this is sound
+abbrev pub IsCoreIfGiven : NetworkLists → Option HierarchyLists → Option HierarchyLists → Type 0
+IsCoreIfGiven n None core = Unit
+IsCoreIfGiven n (Some h) None = Unit
+IsCoreIfGiven n (Some h) (Some k) = IsSoundOnCore n h k
 
 -- the descents are those of the hierarchy to the targets
 pub record DescendTo (n : NetworkLists) (h : Option HierarchyLists) (targets : List ℕ) (d : Descents) : Type 0 where

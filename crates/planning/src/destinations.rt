@@ -6,7 +6,7 @@ ghost use Rattle.mode_network.specs.NetworkLists.{nodes_of};
 ghost use Rattle.planning.specs.Arrivals.{AreArrivalsTo};
 ghost use Rattle.planning.specs.Plans.{IsRead};
 ghost use Rattle.planning.specs.Destinations.{AddsDestination, AreCopiesTo, AreDestinations, AreListed};
-ghost use Rattle.planning.specs.Destinations.{AreNumberArrivals, DescendTo};
+ghost use Rattle.planning.specs.Destinations.{AreNumberArrivals, DescendTo, IsCoreIfGiven};
 ghost use Rattle.planning.specs.Destinations.{earlier, earliest, earliest_in};
 
 use automaton::positions_accept;
@@ -41,7 +41,8 @@ struct Listing {
 
 /// The destinations of some queries, made ready so that one search finds when the best journeys arrive at each of them.
 ///
-/// Where they are many and a hierarchy is given, the search goes up and along the core alone, and one sweep leads down from there.
+/// Where they are many and a hierarchy is given, the search goes up and along the core alone, and one sweep leads down from there. Where
+/// one of its core is given as well, rounds over that take the place of the search.
 #[derive(Drop)]
 pub struct Destinations<'a> {
     pub network: &'a Network,
@@ -55,14 +56,18 @@ pub struct Destinations<'a> {
 
 impl<'a> Destinations<'a> {
     /// The destinations of those queries that are there, on a network and over a hierarchy, if there is one, which is
-    /// sound for it. The graph that is searched is made for all of them at once.
+    /// sound for it, and over one of its core, if there is one, which is sound for the network of that. The graph that is
+    /// searched is made for all of them at once.
     pub fn new(
         alloc: Global,
         network: &'a Network,
         hierarchy: Option<&'a Hierarchy>,
+        core: Option<&Hierarchy>,
         queries: &'a [Option<Query>],
     ) -> Result<Destinations<'a>, AllocError>
-        requires { IfSome hierarchy (λ h. IsSound network.now h.now) }
+        requires sound { IfSome hierarchy (λ h. IsSound network.now h.now) }
+        requires core { IsCoreIfGiven network.now (option_map (λ h. h.now) hierarchy)
+            (option_map (λ k. k.now) core) }
         ensures ready { IfOk result AreDestinations }
         ensures network { IfOk result (λ d. d.network.now ≡ network.now) }
         ensures queries { IfOk result (λ d. d.queries.now ≡ queries.now) }
@@ -75,7 +80,7 @@ impl<'a> Destinations<'a> {
         let mut marks = MarkTable::new(alloc);
         let graph = GraphInUse::new(alloc, &mut marks, network, hierarchy, &targets)?;
         let table = TargetTable::new(alloc, numbers)?;
-        let descents = descents_to(alloc, network, hierarchy, &targets)?;
+        let descents = descents_to(alloc, network, hierarchy, core, &targets)?;
         Ok(Destinations {
             network,
             hierarchy,
@@ -149,15 +154,18 @@ fn descents_to<'a>(
     alloc: Global,
     network: &'a Network,
     hierarchy: Option<&'a Hierarchy>,
+    core: Option<&Hierarchy>,
     targets: &[u32],
 ) -> Result<Option<Descents<'a>>, AllocError>
-    requires { IfSome hierarchy (λ h. IsSound network.now h.now) }
+    requires sound { IfSome hierarchy (λ h. IsSound network.now h.now) }
+    requires core { IsCoreIfGiven network.now (option_map (λ h. h.now) hierarchy)
+        (option_map (λ k. k.now) core) }
     ensures { IfOk result (λ made. IfSome made (DescendTo network.now
         (option_map (λ h. h.now) hierarchy.entry) targets.now)) }
 {
     match hierarchy {
         Some(hierarchy) if has_many(hierarchy, targets) => {
-            Descents::new(alloc, network, hierarchy, targets)
+            Descents::new(alloc, network, hierarchy, core, targets)
         }
         _ => Ok(None),
     }
