@@ -94,7 +94,7 @@ fn write_rows<F: Shelf, O: Sink, E: Sink>(
     let alloc = ports.alloc;
     let lines = destination_lines(alloc, bytes)?;
     let queries = read_ends(alloc, network, asking, &lines)?;
-    let destinations = Destinations::new(alloc, network, hierarchy, &queries)?;
+    let destinations = Destinations::new(alloc, network, hierarchy, None, &queries)?;
     let table = Table {
         asking,
         lines: &lines,
