@@ -1,5 +1,5 @@
 -- Arcs before any descent: the letters of those at road nodes, and the steady ones as entries.
-use Rattle.plan_base.proofs.Common.{◌≡◌, ℕ, ◌+◌, ◌<◌, ◌≤◌, ◌⊎◌, inl, inr, ◌∙◌, ◌||◌, ◌&&◌, nat_lt, Bool, true, false, List, [], length, get_or, Option, Some, None, refl, sym, ap, ap₂, subst, subst₂, arith, slice_get-get_or, get_or_default, ltb-true, eqb-true, Contains}
+use Rattle.plan_base.proofs.Common.{◌≡◌, ℕ, ◌+◌, ◌<◌, ◌≤◌, ◌⊎◌, inl, inr, ◌∙◌, ◌||◌, ◌&&◌, nat_lt, Bool, true, false, List, [], length, get_or, Option, Some, None, IfSome, refl, sym, ap, ap₂, subst, subst₂, arith, slice_get-get_or, get_or_default, ltb-true, eqb-true, Contains}
 use Rattle.plan_base.specs.{number_of_mode}
 use Rattle.search_laws.specs.{GraphMeaning, HasArc, GraphArc, LabelsMeaning, HasMove, Follows}
 use Rattle.mode_network.specs.{NetworkLists.NetworkLists, letter_at, nodes_of, IsNetwork, Step, Wait, Link, Stand, Ride, IsStep, declared.steps.Step.TheVariants.Road}
@@ -11,6 +11,7 @@ use Rattle.phase_graph.specs.{declared.in_use.GraphInUse.GraphInUse, declared.in
 use Rattle.phase_graph.specs.InUseGraph.{hierarchy_in, meaning_in_use, network_in, steady_in_use}
 use Rattle.phase_graph.proofs.{GraphLemmas.half, GraphLemmas.phase_of, GraphMoves.is_phase_graph, LegLemmas.legs_few, PlaceLemmas.up_known}
 use Rattle.rounds.specs.Rounds.{Rounds, AreRounds}
+use Rattle.rounds.specs.inside.{IsRoadOrNone}
 
 -- the graph that rounds go over is one of phases for no targets
 pub phases_of : (r : Rounds) → AreRounds r → IsNetwork r.network.now → IsHierarchy r.hierarchy.now → IsPhaseGraph r.network.now r.hierarchy.now [] (meaning_in_use r.graph)
@@ -48,6 +49,48 @@ module _ (n : NetworkLists) (network : IsNetwork n) (v mode : ℕ) (letter : let
   arc_letter h targets g is down i t u has arrives =
       let m = is.move_of v down t i u has arrives in
       move_letter h targets down t m.move m.to m.down2 u (g.arc_at (phase_node v down) i).letter m.is
+
+-- ---- rides
+
+-- a run leads from v at t to w at u, with this letter
+abbrev pub IsRideFrom : NetworkLists → ℕ → ℕ → ℕ → ℕ → Option ℕ → Type 0
+IsRideFrom n v t w u letter = (trip : ℕ) × (day : ℕ) × (board : ℕ) × (alight : ℕ) × IsStep n v t (Ride trip day board alight) w u letter
+
+module _ (n : NetworkLists) (network : IsNetwork n) (v t w u : ℕ) (letter : Option ℕ) where
+  road_letter : (o : Option ℕ) → letter_at n.roads v ≡ o → IsRoadOrNone o
+  road_letter None e = tt
+  road_letter (Some mode) e = (letter_is_road n network v mode e).1
+
+  of_node : letter ≡ letter_at n.roads v → IsRoadOrNone letter
+  of_node e = subst IsRoadOrNone (sym e) (road_letter (letter_at n.roads v) refl)
+
+  step_or_ride : (step : Step) → IsCrossing step → IsStep n v t step w u letter → IsRoadOrNone letter ⊎ IsRideFrom n v t w u letter
+  step_or_ride (Wait until) crossing is = absurd crossing
+  step_or_ride (Road to) crossing is = absurd crossing
+  step_or_ride (Link to) crossing (ms, leads, ew, eu, none) = inl (subst IsRoadOrNone (sym none) tt)
+  step_or_ride Stand crossing is = absurd crossing
+  step_or_ride (Ride trip day board alight) crossing is = inr (trip, day, board, alight, is)
+
+  -- a move before any descent has a road letter or none, or is a ride
+  move_or_ride : (h : HierarchyLists) (targets : List ℕ) (move : PhaseMove) (end : Bool) → IsPhaseMove n h targets v false t move w end u letter → IsRoadOrNone letter ⊎ ((end ≡ false) × IsRideFrom n v t w u letter)
+  move_or_ride h targets (rest until) end (later, ew, ed, eu, el) = inl (subst IsRoadOrNone (sym el) tt)
+  move_or_ride h targets (rise hop) end (before, entry, up, ew, ed, eu, el) = inl (of_node el)
+  move_or_ride h targets (fall hop) end (entry, above, marked, ew, ed, eu, el) = inl (of_node el)
+  move_or_ride h targets (cross step) end (before, core, crossing, taken, ed) = elim (step_or_ride step crossing taken) [
+    | inl road ↦ inl road
+    | inr ride ↦ inr (ed, ride)
+  ]
+  move_or_ride h targets stand end (own, is, ew, ed, eu, el) = inl (of_node (el ∙ sym is))
+
+-- so has an arc that arrives, or is one
+pub road_or_ride : (n : NetworkLists) → IsNetwork n → (h : HierarchyLists) (targets : List ℕ) (g : GraphMeaning) → IsPhaseGraph n h targets g → (v i t u : ℕ) → HasArc g (phase_node v false) i → g.arrive (phase_node v false) i t ≡ Some u
+    → IsRoadOrNone (g.arc_at (phase_node v false) i).letter ⊎ ((w : ℕ) × ((g.arc_at (phase_node v false) i).to ≡ phase_node w false) × IsRideFrom n v t w u (g.arc_at (phase_node v false) i).letter)
+road_or_ride n network h targets g is v i t u has arrives =
+    let m = is.move_of v false t i u has arrives in
+    elim (move_or_ride n network v t m.to u (g.arc_at (phase_node v false) i).letter h targets m.move m.down2 m.is) [
+      | inl road ↦ inl road
+      | inr (end, ride) ↦ inr (m.to, m.leads ∙ ap (phase_node m.to) end, ride)
+    ]
 
 -- ---- steady arcs
 

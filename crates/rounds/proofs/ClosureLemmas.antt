@@ -138,7 +138,7 @@ module _ {a : AskedMeaning} {firsts : List Label} {turns : List Turn} {walks row
       let p = phase_node at.node false in
       let c = at.crosses there in
       let earlier = earlier_of g (lawful_in_use a.rounds.graph) p i (a.dep + cell rows x.state c.0) x.at u has c.4 arrives in
-      let next = crossing_visits e p x.state x.at c i earlier.0 r state past has.arc earlier.1 follows in
+      let next = crossing_visits e at.node x.state x.at c i earlier.0 r state past has earlier.1 follows in
       crossed_listed e (g.arc_at p i).to r u (follows_stays a.labels e.lawful (g.arc_at p i).letter x.state r state follows) (next.0, next.1, next.2, next.3, omega (arith, next.4, earlier.2))
 
   -- and at a node that is no crossing, what any other arc leads to: it stands

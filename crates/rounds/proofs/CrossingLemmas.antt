@@ -9,13 +9,13 @@ use Rattle.phase_graph.specs.{phase_node, IsInUse}
 use Rattle.rounds.specs.Crossings.{AreStanding, IsQuiet}
 
 -- no state was given anything
-abbrev no_runs : GivenRuns
+abbrev pub no_runs : GivenRuns
 no_runs = record {
   cells = record { ptr = null_ptr; len = 0; cap = 0; alloc = record { memory = record { seal = tt } }; items = []; ok = (refl, omega arith); small = omega arith };
   lost = 0;
 }
 
-none_held : (run : GivenRun) → HoldsRun no_runs run → ⊥
+pub none_held : (run : GivenRun) → HoldsRun no_runs run → ⊥
 none_held run (k, lt, is) = omega arith
 
 -- the set of all letters has each

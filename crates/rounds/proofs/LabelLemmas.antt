@@ -1,14 +1,15 @@
 -- What labels at core nodes say of walks and crossings, where nothing is reached sooner any more.
-use Rattle.plan_base.proofs.Common.{◌≡◌, ◌∙◌, ℕ, ◌+◌, ◌<◌, ◌≤◌, inl, inr, false, List, [], length, slice_index, slice_get, Some, refl, sym, ap, subst, subst₂, arith, Contains, get_or_default, get_or_from_slice_get, slice_get-get_or, slice_get_within, slice_get_cases, Vec, Global}
-use Rattle.search_laws.specs.{GraphMeaning, LabelsMeaning, IsLawfulLabels, IsRoadLabels, HasMove, Follows}
-use Rattle.mode_network.specs.{NetworkLists.NetworkLists, letter_at, IsNetwork}
+use Rattle.plan_base.proofs.Common.{◌≡◌, ◌∙◌, ℕ, ◌+◌, ◌<◌, ◌≤◌, inl, inr, false, List, [], length, slice_index, slice_get, Some, IfSome, refl, sym, ap, subst, subst₂, arith, Contains, get_or_default, get_or_from_slice_get, slice_get-get_or, slice_get_within, slice_get_cases, Vec, Global}
+use Rattle.search_laws.specs.{GraphMeaning, HasArc, LabelsMeaning, IsLawfulLabels, IsRoadLabels, HasMove, Follows}
+use Rattle.mode_network.specs.{NetworkLists.NetworkLists, letter_at, IsNetwork, Ride, IsStep}
 use Rattle.mode_network.proofs.RuleLemmas.{letter_is_road, some_is}
 use Rattle.hierarchy.specs.{HierarchyLists, IsCore, HasEntry, IsHierarchy}
 use Rattle.product_search.specs.{Label, IsListedBy, label_of}
 use Rattle.phase_graph.specs.{phase_node, InUseGraph.meaning_in_use, InUseGraph.steady_in_use}
 use Rattle.phase_graph.proofs.MoveLemmas.{same_mode}
 use Rattle.rounds.specs.{CoreLayer, AreRounds, CoreLeads, IsCoreIn, IsCoreLayer}
-use Rattle.rounds.specs.inside.{AskedMeaning, IsLayerOf, Turn, IsTurn, AreTurns, node_at, row_of, cell, never, AreSettled, AreLabelsOf, IsWalkLabel, IsCrossingLabel, AreFirsts, IsWalked, IsCrossedBy, crossing_node}
+use Rattle.rounds.specs.inside.{AskedMeaning, IsLayerOf, Turn, IsTurn, AreTurns, node_at, row_of, cell, never, AreSettled, AreLabelsOf, IsWalkLabel, IsCrossingLabel, AreFirsts, IsWalked, IsCrossedBy, IsRoadOrNone, crossing_node}
+use Rattle.rounds.proofs.{ArcLemmas.phases_of, ArcLemmas.road_or_ride, RideLemmas.ride_crossed}
 
 -- a move by a road letter that can be read again leads nowhere else
 pub stays : (l : LabelsMeaning) → IsRoadLabels l → (q c r : ℕ) → q < l.states → c < 3 → HasMove l q c q → HasMove l q c r → r ≡ q
@@ -204,8 +205,14 @@ module _ {a : AskedMeaning} {firsts : List Label} {turns : List Turn} {walks row
       (j, low, is, delay.0, delay.1)
 
   -- what a crossing is left by but its entries leads to a crossing
-  pub crossing_visits : (p q s : ℕ) (c : CrossedBy p q s) (i u r : ℕ) → q < a.labels.states → steady_in_use a.rounds.graph p ≤ i → i < g.arcs p → g.arrive p i (a.dep + cell rows q c.0) ≡ Some u
-      → Follows a.labels q (g.arc_at p i).letter r → CrossedBy (g.arc_at p i).to r u
-  crossing_visits p q s (j, low, is, some, by) i u r state =
-      subst (λ o. steady_in_use a.rounds.graph o ≤ i → i < g.arcs o → g.arrive o i (a.dep + cell rows q j) ≡ Some u → Follows a.labels q (g.arc_at o i).letter r → CrossedBy (g.arc_at o i).to r u) (sym is)
-      (e.settled.visited q j state low some i u r)
+  pub crossing_visits : (v q s : ℕ) (c : CrossedBy (phase_node v false) q s) (i u r : ℕ) → q < a.labels.states → steady_in_use a.rounds.graph (phase_node v false) ≤ i → HasArc g (phase_node v false) i
+      → g.arrive (phase_node v false) i (a.dep + cell rows q c.0) ≡ Some u → Follows a.labels q (g.arc_at (phase_node v false) i).letter r → CrossedBy (g.arc_at (phase_node v false) i).to r u
+  crossing_visits v q s (j, low, is, some, by) i u r state past has arrives follows =
+      let p = phase_node v false in
+      let at : slice_index a.rounds.crossings.items j ≡ v = omega (arith, is) in
+      elim (road_or_ride n e.network h [] g (phases_of a.rounds e.rounds e.network e.rules) v i (a.dep + cell rows q j) u has arrives) [
+        | inl road ↦ subst (λ o. steady_in_use a.rounds.graph o ≤ i → i < g.arcs o → g.arrive o i (a.dep + cell rows q j) ≡ Some u → IsRoadOrNone (g.arc_at o i).letter → Follows a.labels q (g.arc_at o i).letter r
+            → CrossedBy (g.arc_at o i).to r u) (sym is) (e.settled.visited q j state low some i u r) past has.arc arrives road follows
+        | inr (w, leads, (trip, day, board, alight, step)) ↦ subst (λ o. CrossedBy o r u) (sym leads)
+            (ride_crossed a e.rounds rows e.settled.ridden j q state low some trip day board alight w u r (g.arc_at p i).letter (subst (λ x. IsStep n x (a.dep + cell rows q j) (Ride trip day board alight) w u (g.arc_at p i).letter) (sym at) step) follows)
+      ]

@@ -8,6 +8,7 @@ use Rattle.cores.specs.{is_core_entry, core_arc, core_arcs, IsSoundOnCore}
 use Rattle.sweeps.specs.{Sheet, LeadsBetween, IsSheetOf, IsLayer, inside.ArePlacesOf}
 use Rattle.sweeps.proofs.{EntryLemmas.Contains-from_map, EntryLemmas.has_entry, LayerLemmas.between_entry, LayerLemmas.entry_up, LayerLemmas.entry_down, LayerLemmas.sheets_are_whole}
 use Rattle.rounds.specs.Layers.{CoreLayer, CoreLeads, IsApart, IsCoreIn, HasCoreHops, IsCoreLayer, AreLayerNodes, Gate, IsGate, AreGates}
+use Rattle.rounds.proofs.RowLemmas.{each_more}
 
 abbrev gate_by : ℕ → ℕ → Gate
 gate_by crossing place = record { crossing = crossing; place = place }
@@ -199,12 +200,6 @@ pub layer_more : (n : NetworkLists) (h : HierarchyLists) (crossings : List ℕ) 
     → AreGates layer.sheet.slope.nodes.items crossings layer.gates.items → AreLayersBelow n h crossings (count + 1) (layers ++ layer ∷ [])
 layer_more n h crossings count layers layer below is gates = record {
   many = omega (arith, below.many, length-append layers (layer ∷ []));
-  each = λ letter x at. (let lt = slice_get_within (layers ++ layer ∷ []) letter x at in
-      let read = get_or_from_slice_get (layers ++ layer ∷ []) letter x x at in
-      elim (cases_eq letter count) [
-        | inl last ↦ (let same : layer ≡ x = sym (get_or_push layers layer x letter (below.many ∙ sym last)) ∙ read in
-            subst (λ (y : CoreLayer). IsCoreLayer n h letter y.sheet × AreGates y.sheet.slope.nodes.items crossings y.gates.items) same (subst (λ k. IsCoreLayer n h k layer.sheet) (sym last) is, gates))
-        | inr other ↦ (let inside : letter < length layers = omega (arith, lt, other, below.many, length-append layers (layer ∷ [])) in
-            below.each letter x (slice_get-get_or layers letter x inside ∙ ap Some (sym (get_or_append_left layers (layer ∷ []) x letter inside) ∙ read)))
-      ]);
+  each = each_more (λ letter (x : CoreLayer). IsCoreLayer n h letter x.sheet × AreGates x.sheet.slope.nodes.items crossings x.gates.items) layers layer below.each
+      (subst (λ k. IsCoreLayer n h k layer.sheet) (sym below.many) is, gates);
 }

@@ -14,3 +14,5 @@ pub mod LayerLemmas
 pub mod VisitLemmas
 pub mod ReachLemmas
 pub mod FirstLemmas
+pub mod RideLemmas
+pub mod LineLemmas

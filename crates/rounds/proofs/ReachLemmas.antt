@@ -1,10 +1,9 @@
 -- What rounds keep: cells only get lower.
 use Rattle.plan_base.proofs.Common.{◌≡◌, ℕ, ◌<◌, ◌≤◌, List, length, subst, sym, arith, Option, Some, None, IfSome}
-use Rattle.search_laws.specs.{GivenRuns, HoldsRun, GivenRun}
 use Rattle.product_search.specs.{Label}
-use Rattle.rounds.specs.inside.{cell, never, HaveShape, AreLowered, AskedMeaning, Turn, AreWalksReached, AreWalksClosed, AreWalkedBelow, AreCrossingsReached, AreVisiting, IsVisited, HaveCrossed, HaveWalked, HaveRoom, AreSettled}
+use Rattle.rounds.specs.inside.{row_of, cell, never, HaveShape, AreLowered, AskedMeaning, Turn, AreWalksReached, AreWalksClosed, AreWalkedBelow, AreCrossingsReached, AreVisiting, IsVisited, IsRiddenAlong, AreRiding, HaveCrossed, HaveWalked, HaveRoom, AreSettled}
 use Rattle.rounds.specs.declared.asked.Reached.{Reached}
-use Rattle.rounds.proofs.VisitLemmas.{Rows, IsAny, visited_stays, given_stays}
+use Rattle.rounds.proofs.VisitLemmas.{Rows, IsAny, visited_stays}
 
 module _ (a : AskedMeaning) (labels : List Label) where
   -- labels that have delays keep them
@@ -19,51 +18,64 @@ module _ (a : AskedMeaning) (labels : List Label) where
       (omega (arith, was.0, lowered.no_later k i), omega (arith, was.1, lowered.no_later k i))
 
 module _ (a : AskedMeaning) where
-  -- what was visited and given stays so
-  pub visiting_kept : (old new visits : Rows) (given : GivenRuns) → AreLowered IsAny old new → AreCrossingsReached a new → AreVisiting a old visits given → AreVisiting a new visits given
-  visiting_kept old new visits given lowered reached was = record {
+  -- what was visited stays so
+  pub visiting_kept : (old new visits : Rows) → AreLowered IsAny old new → AreCrossingsReached a new → AreVisiting a old visits → AreVisiting a new visits
+  visiting_kept old new visits lowered reached was = record {
     reached = reached;
     shape = was.shape;
     visited = record {
       no_later = λ q j state within. omega (arith, lowered.no_later q j, was.visited.no_later q j state within);
       visited = λ q j state within some. visited_stays a IsAny old new lowered q j (cell visits q j) (was.visited.visited q j state within some);
     };
-    crossed = given_stays a IsAny old new lowered given was.crossed;
   }
 
   -- at first nothing is
-  pub visiting_begins : (rows visits : Rows) (given : GivenRuns) → AreCrossingsReached a rows → ((q j : ℕ) → q < a.labels.states → j < length a.rounds.crossings.items → cell rows q j ≤ never)
+  pub visiting_begins : (rows visits : Rows) → AreCrossingsReached a rows → ((q j : ℕ) → q < a.labels.states → j < length a.rounds.crossings.items → cell rows q j ≤ never)
       → HaveShape a.labels.states (length a.rounds.crossings.items) visits → ((q j : ℕ) → q < a.labels.states → j < length a.rounds.crossings.items → cell visits q j ≡ never)
-      → ((run : GivenRun) → HoldsRun given run → ⊥) → AreVisiting a rows visits given
-  visiting_begins rows visits given reached few shape none unheld = record {
+      → AreVisiting a rows visits
+  visiting_begins rows visits reached few shape none = record {
     reached = reached;
     shape = shape;
     visited = record {
       no_later = λ q j state within. omega (arith, few q j state within, none q j state within);
       visited = λ q j state within some. absurd (omega (arith, some, none q j state within));
     };
-    crossed = λ q r way state was follows. absurd (unheld was.run was.known);
   }
 
   -- all that is kept from round to round
-  pub record AreUnderWay (firsts : List Label) (turns : List Turn) (walks rows visits : Rows) (given : GivenRuns) : Type 0 where
+  pub record AreUnderWay (firsts : List Label) (turns : List Turn) (walks rows visits rides : Rows) : Type 0 where
     pub walks_reached : AreWalksReached a turns walks
     pub walks_closed : AreWalksClosed a turns walks
-    pub visiting : AreVisiting a rows visits given
+    pub visiting : AreVisiting a rows visits
+    pub riding : AreRiding a rows rides
     pub crossed : HaveCrossed a firsts rows
     pub walked : HaveWalked a firsts turns walks
 
+  -- one round more: walks, links, and then rides
+  pub round_more : (firsts : List Label) (turns : List Turn) (before walks old mid next rows visits rides : Rows) → HaveCrossed a firsts old → HaveWalked a firsts turns before
+      → AreLowered IsAny before walks → AreWalksReached a turns walks → AreWalksClosed a turns walks → AreLowered IsAny old mid → AreLowered IsAny mid next → AreVisiting a next visits
+      → AreLowered IsAny next rows → AreRiding a rows rides → AreUnderWay firsts turns walks rows visits rides
+  round_more firsts turns before walks old mid next rows visits rides crossed walked on reached closed first then visiting last riding = record {
+    walks_reached = reached;
+    walks_closed = closed;
+    visiting = visiting_kept next rows visits last riding.reached visiting;
+    riding = riding;
+    crossed = crossed_kept a firsts next rows last (crossed_kept a firsts mid next then (crossed_kept a firsts old mid first crossed));
+    walked = walked_kept a firsts turns before walks on walked;
+  }
+
   -- where nothing changes any more all is settled
-  pub settled : (firsts : List Label) (turns : List Turn) (walks rows visits : Rows) (given : GivenRuns) → AreUnderWay firsts turns walks rows visits given → AreWalkedBelow a turns walks rows (length turns)
-      → ((q j : ℕ) → q < a.labels.states → j < length a.rounds.crossings.items → cell rows q j < never → cell visits q j ≡ cell rows q j) → HaveRoom a.rounds.longest walks
+  pub settled : (firsts : List Label) (turns : List Turn) (walks rows visits rides : Rows) → AreUnderWay firsts turns walks rows visits rides → AreWalkedBelow a turns walks rows (length turns)
+      → ((q j : ℕ) → q < a.labels.states → j < length a.rounds.crossings.items → cell rows q j < never → cell visits q j ≡ cell rows q j) → ((q : ℕ) → q < a.labels.states → row_of rides q ≡ row_of rows q) → HaveRoom a.rounds.longest walks
       → AreSettled a firsts turns walks rows
-  settled firsts turns walks rows visits given way closed now room = record {
+  settled firsts turns walks rows visits rides way closed now ridden room = record {
     walks_reached = way.walks_reached;
     crossings_reached = way.visiting.reached;
     crossed = way.crossed;
     walked = way.walked;
     closed = closed;
     visited = λ q j state within some. (let same = now q j state within some in subst (IsVisited a rows q j) same (way.visiting.visited.visited q j state within (omega (arith, same, some))));
+    ridden = λ q p line state is. subst (IsRiddenAlong a rows q p line.crossings.items) (ridden q state) (way.riding.ridden q p line state is);
     room = room;
   }
 

@@ -1,7 +1,20 @@
 -- Rows of delays, and what lowering them does.
-use Rattle.plan_base.proofs.Common.{◌≡◌, ◌≢◌, ◌∙◌, ℕ, zero, suc, ◌+◌, ◌<◌, ◌≤◌, inl, inr, List, [], ◌∷◌, ◌++◌, length, set, get_or, refl, sym, ap, subst, arith, Vec, Global, cases_eq, length-set, length_push, below_more, get_or-set_other, get_or-set_same}
+use Rattle.plan_base.proofs.Common.{◌≡◌, ◌≢◌, ◌∙◌, ℕ, zero, suc, ◌+◌, ◌<◌, ◌≤◌, inl, inr, List, [], ◌∷◌, ◌++◌, length, set, get_or, refl, sym, ap, subst, arith, Vec, Global, cases_eq, length-set, length_push, below_more, get_or-set_other, get_or-set_same, Some, subst₂, slice_get, slice_get_within, slice_get-get_or, get_or_from_slice_get, get_or_push, get_or_append_left}
 use Rattle.sweeps.specs.{time_at}
 use Rattle.rounds.specs.inside.{row_of, cell, HaveShape, AreLowered, IsRowLowered}
+
+-- ---- lists that go on
+
+-- P holds of each element at its place, and of one more
+pub each_more : {X : Type 0} (P : ℕ → X → Type 0) (xs : List X) (y : X) → ((k : ℕ) (x : X) → slice_get xs k ≡ Some x → P k x) → P (length xs) y → (k : ℕ) (x : X) → slice_get (xs ++ y ∷ []) k ≡ Some x → P k x
+each_more {X} P xs y each here k x at =
+    let lt = slice_get_within (xs ++ y ∷ []) k x at in
+    let read = get_or_from_slice_get (xs ++ y ∷ []) k x x at in
+    elim (cases_eq k (length xs)) [
+      | inl last ↦ subst₂ P (sym last) (sym (get_or_push xs y x k (sym last)) ∙ read) here
+      | inr other ↦ (let inside : k < length xs = omega (arith, lt, other, length_push xs y) in
+          each k x (slice_get-get_or xs k x inside ∙ ap Some (sym (get_or_append_left xs (y ∷ []) x k inside) ∙ read)))
+    ]
 
 -- ---- which row stands where
 

@@ -1,14 +1,15 @@
--- Links and rides lower what is reached, and what was visited stays so.
-use Rattle.plan_base.proofs.Common.{◌≡◌, ◌∙◌, ℕ, ◌+◌, ◌<◌, ◌≤◌, ◌⊎◌, inl, inr, Bool, true, false, ◌||◌, List, [], ◌++◌, length, get_or, get_or_default, Option, Some, None, Result, Ok, Err, refl, sym, ap, subst, subst₂, arith, Vec, Global, IfOk, IfSome, All, All-contains, All-weaker, Contains, cases_Bool, cases_eq, or_parts, below_more}
+-- Links lower what is reached, and what was visited stays so.
+use Rattle.plan_base.proofs.Common.{◌≡◌, ◌∙◌, ℕ, ◌+◌, ◌<◌, ◌≤◌, ◌⊎◌, inl, inr, Bool, true, false, ◌||◌, List, [], ◌++◌, length, get_or, get_or_default, Option, Some, None, Result, Ok, Err, refl, sym, ap, subst, subst₂, arith, Vec, Global, IfOk, IfSome, All, All-contains, All-weaker, Contains, cases_Bool, cases_eq, IsBitSet, bit_and, zero, suc, or_parts, below_more}
 use Rattle.std.specs.declared.alloc.AllocError.{AllocError}
-use Rattle.search_laws.specs.{GraphMeaning, IsLetter, IsLawfulLabels, Follows, HasMove, Way, GivenRuns, IsAsGood, HasAsGood, HasAsGoodOrGiven, AreFresh, AreMoving, AddsMoving, StandsStill, IsWay, is_open, ways_past, visit_by}
+use Rattle.std.proofs.lemmas.Nat.{and_assoc}
+use Rattle.search_laws.specs.{GraphMeaning, IsLetter, IsLawfulLabels, Follows, HasMove, Way, GivenRun, GivenRuns, HoldsRun, IsAsGood, HasAsGood, HasAsGoodOrGiven, AreFresh, AreMoving, AddsMoving, StandsStill, IsWay, is_open, ways_past, visit_by}
 use Rattle.search_laws.proofs.{WayLemmas.ways_are, WayLemmas.ways_there, FreshLemmas.closed_unset}
-use Rattle.product_search.specs.inside.{HasLetters, HasLeaving}
+use Rattle.product_search.specs.inside.{HasLeaving}
 use Rattle.product_search.proofs.ReachLemmas.{reached_more}
 use Rattle.phase_graph.specs.{meaning_in_use}
 use Rattle.phase_graph.specs.InUseGraph.{lawful_in_use, steady_in_use, rides_in_use}
 use Rattle.sweeps.specs.{time_at}
-use Rattle.rounds.specs.inside.{cell, never, HaveShape, AreLowered, AreVisiting, AskedMeaning, Reaches, AreCrossingsReached, crossing_node, IsCrossedBy, IsVisited, AreVisited, AreGivenCrossed, WayReaches, WayIsCrossed, AreCrossedOn}
+use Rattle.rounds.specs.inside.{cell, never, HaveShape, AreLowered, AreVisiting, AskedMeaning, Reaches, AreCrossingsReached, crossing_node, IsCrossedBy, IsRoadOrNone, IsVisited, AreVisited, WayReaches, WayIsCrossed, AreCrossedOn}
 use Rattle.rounds.proofs.RowLemmas.{lowered_same, lowered_then, lowered_weaker, row_is, shape_stays}
 
 abbrev pub Rows : Type 0
@@ -25,6 +26,13 @@ module _ (count width : ℕ) (rows : Rows) (k : ℕ) (row : Vec ℕ Global) (sha
   pub cell_found : (i delay : ℕ) → i < width → delay ≡ get_or row.items i delay → cell rows k i ≡ delay
   cell_found i delay lt at = ap (λ xs. time_at xs i) (row_is rows k row (omega (arith, shape.count_is)) is) ∙ get_or_default row.items i 0 delay (omega (arith, row_found)) ∙ sym at
 
+-- a road letter of a set stays where all others are taken out
+pub road_bit : (letters c : ℕ) → c < 3 → IsBitSet letters c → IsBitSet (bit_and letters 7) c
+road_bit letters zero low set e = set (sym (and_assoc 1 letters 7) ∙ e)
+road_bit letters (suc zero) low set e = set (sym (and_assoc 2 letters 7) ∙ e)
+road_bit letters (suc (suc zero)) low set e = set (sym (and_assoc 4 letters 7) ∙ e)
+road_bit letters (suc (suc (suc c))) low set e = omega (arith, low)
+
 -- what holds where both hold
 pub if_both : {P Q R : Bool → Type 0} (o : Option Bool) → IfSome o P → IfSome o Q → ((x : Bool) → P x → Q x → R x) → IfSome o R
 if_both None p q both = tt
@@ -38,11 +46,8 @@ module _ (a : AskedMeaning) where
     crossed_stays p q t (j, within, is, some, by) = (j, within, is, omega (arith, some, lowered.no_later q j), omega (arith, by, lowered.no_later q j))
 
     pub visited_stays : (q j delay : ℕ) → IsVisited a old q j delay → IsVisited a new q j delay
-    visited_stays q j delay visited i u r past within arrives follows =
-        crossed_stays ((meaning_in_use a.rounds.graph).arc_at (crossing_node a j) i).to r u (visited i u r past within arrives follows)
-
-    pub given_stays : (given : GivenRuns) → AreGivenCrossed a old given → AreGivenCrossed a new given
-    given_stays given crossed q r way state was follows = crossed_stays way.arc.to r way.at (crossed q r way state was follows)
+    visited_stays q j delay visited i u r past within arrives road follows =
+        crossed_stays ((meaning_in_use a.rounds.graph).arc_at (crossing_node a j) i).to r u (visited i u r past within arrives road follows)
 
     pub way_stays : (q : ℕ) (way : Way) → WayIsCrossed a old q way → WayIsCrossed a new q way
     way_stays q way crossed r follows = crossed_stays way.arc.to r way.at (crossed r follows)
@@ -107,11 +112,11 @@ module _ (a : AskedMeaning) where
   among_crossed : (rows : Rows) (q : ℕ) (ways : List Way) (way : Way) → All (WayIsCrossed a rows q) ways → HasAsGood ways way → WayIsCrossed a rows q way
   among_crossed rows q ways way all (x, has, good) = as_good_crossed rows q x way good (All-contains (WayIsCrossed a rows q) ways x all has)
 
-  -- what a node is left by at t, but for its steady arcs, leads to crossings that are reached
+  -- what a node is left by at t, but for its steady arcs and rides, leads to crossings that are reached
   abbrev IsVisitedAt : Rows → ℕ → ℕ → ℕ → Type 0
   IsVisitedAt rows q p t =
       (i u r : ℕ) → steady_in_use a.rounds.graph p ≤ i → i < (meaning_in_use a.rounds.graph).arcs p → (meaning_in_use a.rounds.graph).arrive p i t ≡ Some u
-      → Follows a.labels q ((meaning_in_use a.rounds.graph).arc_at p i).letter r → IsCrossedBy a rows ((meaning_in_use a.rounds.graph).arc_at p i).to r u
+      → IsRoadOrNone ((meaning_in_use a.rounds.graph).arc_at p i).letter → Follows a.labels q ((meaning_in_use a.rounds.graph).arc_at p i).letter r → IsCrossedBy a rows ((meaning_in_use a.rounds.graph).arc_at p i).to r u
 
   -- the ways that were read are what is fresh of those that move
   pub record AreRead (v t q letters leaving : ℕ) (old new : GivenRuns) (read : List Way) : Type 0 where
@@ -150,28 +155,21 @@ module _ (a : AskedMeaning) where
         (λ way is r follows. subst (λ arc. Reaches a arc.to r way.at) (sym is.is)
         (reached_more g a.labels a.starts a.dep v q t way.place way.at r here is.has is.arrives (subst (λ arc. Follows a.labels q arc.letter r) is.is follows))) read ways
 
-    module _ (rows : Rows) (given : AreGivenCrossed a rows old) (taken : All (WayIsCrossed a rows q) read) where
-      -- what is given now leads to crossings that are reached
-      pub read_given : AreGivenCrossed a rows new
-      read_given other r way state was follows = elim (are.fresh.noted other way was) [
-        | inl before ↦ given other r way state before follows
-        | inr found ↦ among_crossed rows q read way taken found.1 r (subst (λ s. Follows a.labels s way.arc.letter r) found.0 follows)
-      ]
-
-      -- so does what moves
-      moved : q < a.labels.states → (way : Way) → Contains are.moving way → WayIsCrossed a rows q way
-      moved state way has r follows = elim (All-contains (HasAsGoodOrGiven (rides_in_use a.rounds.graph) q old read) are.moving way are.fresh.rest has) [
+    module _ (rows : Rows) (unheld : (run : GivenRun) → HoldsRun old run → ⊥) (taken : All (WayIsCrossed a rows q) read) where
+      -- what moves leads to crossings that are reached
+      moved : (way : Way) → Contains are.moving way → WayIsCrossed a rows q way
+      moved way has r follows = elim (All-contains (HasAsGoodOrGiven (rides_in_use a.rounds.graph) q old read) are.moving way are.fresh.rest has) [
         | inl good ↦ among_crossed rows q read way taken good r follows
-        | inr was ↦ given q r way state was follows
+        | inr was ↦ absurd (unheld was.run was.known)
       ]
 
-      module _ (j : ℕ) (is : v ≡ crossing_node a j) (here : IsCrossedBy a rows v q t) (has_letters : HasLetters a.labels q letters) (has_leaving : HasLeaving a.labels q leaving) (state : q < a.labels.states) where
-        -- a letter of a move is asked for
-        asked_for : (letter : Option ℕ) (r : ℕ) → Follows a.labels q letter r → is_open letters letter ≡ true
-        asked_for None r follows = refl
-        asked_for (Some c) r (i, move) = elim (cases_Bool (is_open letters (Some c))) [
+      module _ (j : ℕ) (is : v ≡ crossing_node a j) (here : IsCrossedBy a rows v q t) (has_roads : (c s : ℕ) → c < 3 → HasMove a.labels q c s → IsBitSet letters c) (has_leaving : HasLeaving a.labels q leaving) where
+        -- a road letter of a move is asked for
+        asked_for : (letter : Option ℕ) (r : ℕ) → IsRoadOrNone letter → Follows a.labels q letter r → is_open letters letter ≡ true
+        asked_for None r road follows = refl
+        asked_for (Some c) r road move = elim (cases_Bool (is_open letters (Some c))) [
           | inl asked ↦ asked
-          | inr closed ↦ absurd (closed_unset letters c closed (has_letters i c move.place move.letter))
+          | inr closed ↦ absurd (closed_unset letters c closed (has_roads c r road move))
         ]
 
         -- what stands still leads to where it is
@@ -184,13 +182,13 @@ module _ (a : AskedMeaning) where
               | inr other ↦ absurd (still.stays (has_leaving i still.letter move.place move.letter (λ e. other (sym move.to ∙ e))))
             ]
 
-        -- so all arcs but the steady ones lead to crossings that are reached
+        -- so all arcs but the steady ones and rides lead to crossings that are reached
         arcs_crossed : IsVisitedAt rows q v t
-        arcs_crossed i u r past within arrives follows =
+        arcs_crossed i u r past within arrives road follows =
             let way : Way = record { place = i; arc = g.arc_at v i; at = u } in
-            let among = ways_there g v t letters (steady_in_use a.rounds.graph v) i u past within arrives (asked_for (g.arc_at v i).letter r follows) in
+            let among = ways_there g v t letters (steady_in_use a.rounds.graph v) i u past within arrives (asked_for (g.arc_at v i).letter r road follows) in
             elim (All-contains (λ x. Contains are.moving x ⊎ StandsStill v t leaving x) (ways_past g v t letters (steady_in_use a.rounds.graph v)) way are.parts.rest among) [
-              | inl moves ↦ moved state way moves r follows
+              | inl moves ↦ moved way moves r follows
               | inr still ↦ stood way r still follows
             ]
 
@@ -221,17 +219,16 @@ module _ (a : AskedMeaning) where
     }
 
     -- so visits go on
-    pub sooner_visiting : (new : Rows) (given : GivenRuns) (done : Result (Option Bool) AllocError) → HaveShape a.labels.states (length a.rounds.crossings.items) visits
-        → IfOk done (λ o. IfSome o (AreCrossedOn a old new)) → IfOk done (λ o. IfSome o (λ c. IsVisited a new q j delay)) → IfOk done (λ o. IfSome o (λ c. AreGivenCrossed a new given))
-        → IfOk done (λ o. IfSome o (λ c. AreVisiting a new noted given))
-    sooner_visiting new given (Ok (Some c)) shape taken visited crossed = record {
+    pub sooner_visiting : (new : Rows) (done : Result (Option Bool) AllocError) → HaveShape a.labels.states (length a.rounds.crossings.items) visits
+        → IfOk done (λ o. IfSome o (AreCrossedOn a old new)) → IfOk done (λ o. IfSome o (λ c. IsVisited a new q j delay))
+        → IfOk done (λ o. IfSome o (λ c. AreVisiting a new noted))
+    sooner_visiting new (Ok (Some c)) shape taken visited = record {
       reached = taken.reached;
       shape = shape_stays (λ k i t. (k ≡ q) × (i ≡ j) × (t ≡ delay)) a.labels.states (length a.rounds.crossings.items) visits noted mark shape;
       visited = noted_visited new taken.lowered visited;
-      crossed = crossed;
     }
-    sooner_visiting new given (Ok None) shape taken visited crossed = tt
-    sooner_visiting new given (Err e) shape taken visited crossed = tt
+    sooner_visiting new (Ok None) shape taken visited = tt
+    sooner_visiting new (Err e) shape taken visited = tt
 
     -- the delay noted is that of the crossing, if that is as before
     pub sooner_here : (new : Rows) (done : Result (Option Bool) AllocError) → cell noted q j ≤ delay → IfOk done (λ o. IfSome o (AreCrossedOn a old new))

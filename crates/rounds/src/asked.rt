@@ -5,10 +5,11 @@ ghost use Rattle.rounds.specs.inside.Rows.{never};
 ghost use Rattle.std.proofs.Props.{props};
 
 use crate::delays::NEVER;
+use crate::riding::Pass;
 use crate::rounds::Rounds;
 use crate::turning::Turn;
 use product_search::{Label, Machine};
-use search_laws::{GivenRuns, RoadLabels, Time};
+use search_laws::{RoadLabels, Time};
 use std::alloc::{AllocError, Global};
 
 /// After how many rounds they are given up.
@@ -79,20 +80,25 @@ impl<L: RoadLabels> Asked<'_, L> {
             return Ok(None);
         };
         let mut visits = self.no_crossings(alloc)?;
-        let mut given = GivenRuns::new(alloc);
         let mut ways = Vec::new(alloc);
+        let mut rides = self.no_crossings(alloc)?;
+        let mut pass = Pass::new(alloc);
         for _ in 0..MOST_ROUNDS {
             let walked = self.walk_all(turns, &mut reached);
             let Some(crossed) = self.visit_all(
+                alloc,
                 &mut reached.crossings,
                 &mut visits,
-                &mut given,
                 &mut ways,
             )?
             else {
                 return Ok(None);
             };
-            if !walked && !crossed {
+            let Some(ridden) = self.ride_all(alloc, &mut reached.crossings, &mut rides, &mut pass)?
+            else {
+                return Ok(None);
+            };
+            if !walked && !crossed && !ridden {
                 return Ok(self.with_room(reached));
             }
         }

@@ -72,8 +72,8 @@ impl<L: RoadLabels> Asked<'_, L> {
         requires start { Contains self.now.starts.now start }
         requires climbs { AreClimbs self.now.rounds.now.hierarchy.now (node_of start) climbs.now }
         requires turns { AreTurns (L.automaton self.now.machine.now.labels) turns.now }
-        ensures { OnOk result (AddsLabels (IsOfAny (IsClimbLabel (asked_of self.now) (node_of start)
-            climbs.now) turns.now) labels.old.items labels.new.items) }
+        ensures { OnOk result (AddsLabels (IsOfAny (IsClimbLabel (asked_of self.now) (node_of start) climbs.now)
+            turns.now) labels.old.items labels.new.items) }
     {
         self.rounds.network.known();
         self.rounds.hierarchy.known();

@@ -1,5 +1,5 @@
-//! When product states are reached over the core of a hierarchy that is contracted once more: by climbs from the starts, and by rounds
-//! of walks all over the road layers of the core, which are sweeps, and of links and rides between them.
+//! When product states are reached from the core of a hierarchy that is contracted once more: by rounds of walks all over the road
+//! layers of the core, which are sweeps, of links, and of rides between them, pattern by pattern.
 #![tactic(auto)]
 
 mod asked;
@@ -8,7 +8,9 @@ pub mod climb;
 pub mod core_layer;
 mod delays;
 mod firsts;
+pub mod lines;
 mod listing;
+mod riding;
 pub mod rounds;
 mod turning;
 mod visiting;
@@ -16,4 +18,5 @@ mod walking;
 
 pub use climb::{Climb, climbs_from};
 pub use core_layer::{CoreLayer, Gate};
+pub use lines::Line;
 pub use rounds::Rounds;

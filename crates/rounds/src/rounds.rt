@@ -12,13 +12,15 @@ ghost use Rattle.sweeps.specs.inside.{ArePlacesOf};
 
 use crate::asked::Asked;
 use crate::core_layer::{CoreLayer, Cores};
+use crate::lines::{Line, lines_of};
 use hierarchy::Hierarchy;
 use mode_network::Network;
 use phase_graph::{GraphInUse, MarkTable};
 use product_search::{Label, Machine};
 use search_laws::{EVERY_LETTER, Graph, RoadLabels, Time};
 use std::alloc::{AllocError, Global};
-use sweeps::place_table;
+use sweeps::{Places, place_table};
+use timetable_arcs::Timetable;
 
 /// How many modes have roads: their letters are the numbers below.
 pub(crate) const ROAD_LETTERS: u8 = 3;
@@ -28,6 +30,8 @@ pub(crate) const ROAD_LETTERS: u8 = 3;
 pub struct Rounds<'a> {
     pub network: &'a Network,
     pub hierarchy: &'a Hierarchy,
+    /// The network's timetable.
+    pub(crate) timetable: &'a Timetable,
     /// The phase graph for no targets, in which nothing leads down.
     pub(crate) graph: GraphInUse<'a>,
     /// The layers of the core, by the letters of their modes.
@@ -36,6 +40,8 @@ pub struct Rounds<'a> {
     pub(crate) crossings: Vec<u32>,
     /// For each number of a node its place among the crossings, if it has one.
     pub(crate) crossing_places: Vec<u32>,
+    /// For each pattern of the timetable the crossings of its calls.
+    pub(crate) lines: Vec<Line>,
     /// No entry along the core takes longer, in ms.
     pub(crate) longest: u32,
     ghost placed: { ArePlacesOf crossings.items (length crossings.items) crossing_places.items },
@@ -77,6 +83,14 @@ impl<'a> Rounds<'a> {
         let Some(crossing_places) = place_table(alloc, &crossings)? else {
             return Ok(None);
         };
+        let places = Places {
+            nodes: &crossings,
+            of: &crossing_places,
+        };
+        let timetable = network.timetable();
+        let Some(lines) = lines_of(alloc, network, timetable, places)? else {
+            return Ok(None);
+        };
         let cores = Cores {
             network,
             hierarchy,
@@ -88,10 +102,12 @@ impl<'a> Rounds<'a> {
         Ok(Some(Rounds {
             network,
             hierarchy,
+            timetable,
             graph,
             layers,
             crossings,
             crossing_places,
+            lines,
             longest,
         }))
     }

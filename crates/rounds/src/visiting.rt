@@ -1,28 +1,32 @@
-//! Links and rides from crossings.
+//! Links from crossings.
 
 ghost use Rattle.std.specs.Prelude.{◌≡◌, ◌<◌, ◌≤◌, All, Contains, false, length};
 ghost use Rattle.rounds.specs.inside.{AreLowered, cell, row_of};
 
 use crate::asked::Asked;
 use crate::delays::{NEVER, delay_of, lower};
+use crate::rounds::ROAD_LETTERS;
 use search_laws::{GivenRuns, Graph, Labels, RoadLabels, Time, Visit, Way};
-use std::alloc::AllocError;
+use std::alloc::{AllocError, Global};
 use sweeps::Places;
 
+/// The set of the letters of roads.
+const ROADS: u32 = (1 << ROAD_LETTERS) - 1;
+
 impl<L: RoadLabels> Asked<'_, L> {
-    ghost use Rattle.std.specs.Prelude.{◌≡◌, ◌≤◌, ◌<◌, ◌^◌, ℕ, All, false, length, IfOk, IfSome};
-    ghost use Rattle.search_laws.specs.{IsLetter};
+    ghost use Rattle.std.specs.Prelude.{◌≡◌, ◌≤◌, ◌<◌, ◌^◌, ℕ, All, false, length, IfOk, IfSome, IsBitSet};
+    ghost use Rattle.search_laws.specs.{IsLetter, HasMove};
     ghost use Rattle.phase_graph.specs.{meaning_in_use};
     ghost use Rattle.rounds.specs.Rounds.{AreRounds};
-    ghost use Rattle.rounds.specs.inside.{asked_of, AreCrossedOn, AreCrossingsReached, AreLowered, AreVisited, AreVisiting, AreGivenCrossed, HaveShape, IsVisited, WayIsCrossed, WayReaches, cell, crossing_node, never};
+    ghost use Rattle.rounds.specs.inside.{asked_of, AreCrossedOn, AreCrossingsReached, AreLowered, AreVisited, AreVisiting, HaveShape, IsVisited, WayIsCrossed, WayReaches, cell, crossing_node, never};
 
-    /// Takes links and rides from the crossings that are reached sooner than they were visited last, in each state. Whether a crossing is
+    /// Takes links from the crossings that are reached sooner than they were visited last, in each state. Whether a crossing is
     /// reached sooner by that; if all fits.
     pub(crate) fn visit_all(
         &self,
+        alloc: Global,
         rows: &mut Vec<Vec<u32>>,
         visits: &mut Vec<Vec<u32>>,
-        given: &mut GivenRuns,
         ways: &mut Vec<Way>,
     ) -> Result<Option<bool>, AllocError>
         requires is { AreRounds self.now.rounds.now }
@@ -31,7 +35,6 @@ impl<L: RoadLabels> Asked<'_, L> {
         requires shape { HaveShape (L.automaton self.now.machine.now.labels).states
             (length self.now.rounds.now.crossings.items) visits.old.items }
         requires visited { AreVisited (asked_of self.now) rows.old.items visits.old.items }
-        requires given { AreGivenCrossed (asked_of self.now) rows.old.items given.old }
         ensures crossings { IfOk result (λ done. IfSome done (λ _. AreCrossingsReached (asked_of self.now)
             rows.new.items)) }
         ensures shape { IfOk result (λ done. IfSome done (λ _. HaveShape
@@ -39,8 +42,6 @@ impl<L: RoadLabels> Asked<'_, L> {
             visits.new.items)) }
         ensures visited { IfOk result (λ done. IfSome done (λ _. AreVisited (asked_of self.now) rows.new.items
             visits.new.items)) }
-        ensures given { IfOk result (λ done. IfSome done (λ _. AreGivenCrossed (asked_of self.now)
-            rows.new.items given.new)) }
         ensures lowered { IfOk result (λ done. IfSome done (λ _. AreLowered (λ _ _ _. Unit {0}) rows.old.items
             rows.new.items)) }
         ensures same { IfOk result (λ done. IfSome done (λ changed. changed ≡ false → rows.new.items
@@ -52,7 +53,7 @@ impl<L: RoadLabels> Asked<'_, L> {
     {
         let mut changed = false;
         for state in 0..self.machine.labels.states() {
-            let Some(crossed) = self.visit_state(state, rows, visits, given, ways)? else {
+            let Some(crossed) = self.visit_state(alloc, state, rows, visits, ways)? else {
                 return Ok(None);
             };
             changed |= crossed;
@@ -63,18 +64,18 @@ impl<L: RoadLabels> Asked<'_, L> {
     /// The same in one state.
     fn visit_state(
         &self,
+        alloc: Global,
         state: u32,
         rows: &mut Vec<Vec<u32>>,
         visits: &mut Vec<Vec<u32>>,
-        given: &mut GivenRuns,
         ways: &mut Vec<Way>,
     ) -> Result<Option<bool>, AllocError>
         requires state { state < (L.automaton self.now.machine.now.labels).states }
         requires is { AreRounds self.now.rounds.now }
         requires early { self.now.dep < 2 ^ 64 }
-        requires visiting { AreVisiting (asked_of self.now) rows.old.items visits.old.items given.old }
+        requires visiting { AreVisiting (asked_of self.now) rows.old.items visits.old.items }
         ensures visiting { IfOk result (λ done. IfSome done (λ _. AreVisiting (asked_of self.now) rows.new.items
-            visits.new.items given.new)) }
+            visits.new.items)) }
         ensures taken { IfOk result (λ done. IfSome done (AreCrossedOn (asked_of self.now) rows.old.items
             rows.new.items)) }
         ensures lowered { IfOk result (λ done. IfSome done (λ _. AreLowered (λ _ _ _. Unit {0}) visits.old.items
@@ -85,7 +86,7 @@ impl<L: RoadLabels> Asked<'_, L> {
     {
         let mut changed = false;
         for crossing in 0..self.rounds.crossings.len() as u32 {
-            let Some(crossed) = self.visit_if_sooner(state, crossing, rows, visits, given, ways)?
+            let Some(crossed) = self.visit_if_sooner(alloc, state, crossing, rows, visits, ways)?
             else {
                 return Ok(None);
             };
@@ -98,20 +99,20 @@ impl<L: RoadLabels> Asked<'_, L> {
     #[inline(always)]
     fn visit_if_sooner(
         &self,
+        alloc: Global,
         state: u32,
         crossing: u32,
         rows: &mut Vec<Vec<u32>>,
         visits: &mut Vec<Vec<u32>>,
-        given: &mut GivenRuns,
         ways: &mut Vec<Way>,
     ) -> Result<Option<bool>, AllocError>
         requires state { state < (L.automaton self.now.machine.now.labels).states }
         requires crossing { crossing < length self.now.rounds.now.crossings.items }
         requires is { AreRounds self.now.rounds.now }
         requires early { self.now.dep < 2 ^ 64 }
-        requires visiting { AreVisiting (asked_of self.now) rows.old.items visits.old.items given.old }
+        requires visiting { AreVisiting (asked_of self.now) rows.old.items visits.old.items }
         ensures visiting { IfOk result (λ done. IfSome done (λ _. AreVisiting (asked_of self.now) rows.new.items
-            visits.new.items given.new)) }
+            visits.new.items)) }
         ensures taken { IfOk result (λ done. IfSome done (AreCrossedOn (asked_of self.now) rows.old.items
             rows.new.items)) }
         ensures lowered { IfOk result (λ done. IfSome done (λ _. AreLowered (λ _ _ _. Unit {0}) visits.old.items
@@ -122,20 +123,20 @@ impl<L: RoadLabels> Asked<'_, L> {
     {
         let delay = rows[state as usize][crossing as usize];
         if delay < NEVER && lower(visits, state, crossing, delay) {
-            self.visit(state, crossing, delay, rows, given, ways)
+            self.visit(alloc, state, crossing, delay, rows, ways)
         } else {
             Ok(Some(false))
         }
     }
 
-    /// Takes links and rides from a crossing that is reached in a state so long after the departure, as `visit_all` does.
+    /// Takes links from a crossing that is reached in a state so long after the departure, as `visit_all` does.
     fn visit(
         &self,
+        alloc: Global,
         state: u32,
         crossing: u32,
         delay: u32,
         rows: &mut Vec<Vec<u32>>,
-        given: &mut GivenRuns,
         ways: &mut Vec<Way>,
     ) -> Result<Option<bool>, AllocError>
         requires state { state < (L.automaton self.now.machine.now.labels).states }
@@ -145,13 +146,10 @@ impl<L: RoadLabels> Asked<'_, L> {
         requires early { self.now.dep < 2 ^ 64 }
         requires crossings { AreCrossingsReached (asked_of self.now) rows.old.items }
         requires here { cell rows.old.items state crossing ≡ delay }
-        requires given { AreGivenCrossed (asked_of self.now) rows.old.items given.old }
         ensures taken { IfOk result (λ done. IfSome done (AreCrossedOn (asked_of self.now) rows.old.items
             rows.new.items)) }
         ensures visited { IfOk result (λ done. IfSome done (λ _. IsVisited (asked_of self.now) rows.new.items state
             crossing delay)) }
-        ensures given { IfOk result (λ done. IfSome done (λ _. AreGivenCrossed (asked_of self.now)
-            rows.new.items given.new)) }
     {
         let Some(node) = self.number_of(crossing) else {
             return Ok(None);
@@ -160,7 +158,7 @@ impl<L: RoadLabels> Asked<'_, L> {
             node,
             at: self.dep + Time::from(delay),
             state,
-            letters: self.machine.letters_of(state),
+            letters: self.roads_of(state),
             leaving: self.machine.leaving(state),
         };
         let graph = &self.rounds.graph;
@@ -168,8 +166,19 @@ impl<L: RoadLabels> Asked<'_, L> {
             return Ok(Some(false));
         }
         ways.clear();
-        graph.fresh_ways(visit, given, ways)?;
+        // No rides are asked for, so no runs are given.
+        let mut given = GivenRuns::new(alloc);
+        graph.fresh_ways(visit, &mut given, ways)?;
         Ok(self.take_ways(state, ways, rows))
+    }
+
+    /// The road letters of the moves that leave a state, as bits.
+    fn roads_of(&self, state: u32) -> u32
+        requires { state < (L.automaton self.now.machine.now.labels).states }
+        ensures { (c r : ℕ) → c < 3 → HasMove (L.automaton self.now.machine.now.labels) state c r
+            → IsBitSet result c }
+    {
+        self.machine.letters_of(state) & ROADS
     }
 
     /// Takes these ways in a state. Whether a crossing is reached sooner by that; if all of them lead to crossings, and all fits.
@@ -240,7 +249,7 @@ impl<L: RoadLabels> Asked<'_, L> {
 
 /// Makes the delays at a place of some rows no longer than this. Whether one of them was longer.
 #[inline(always)]
-fn lower_each(rows: &mut Vec<Vec<u32>>, states: &[u32], place: u32, delay: u32) -> bool
+pub(crate) fn lower_each(rows: &mut Vec<Vec<u32>>, states: &[u32], place: u32, delay: u32) -> bool
     requires { All (λ q. (q < length rows.old.items) × (place < length (row_of rows.old.items q))) states.now }
     ensures lowered { AreLowered (λ k i t. Contains states.now k × (i ≡ place) × (t ≡ delay)) rows.old.items
         rows.new.items }

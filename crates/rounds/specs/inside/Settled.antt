@@ -4,7 +4,7 @@ use Rattle.std.specs.declared.alloc.Global.{Global}
 use Rattle.product_search.specs.{Label}
 use Rattle.phase_graph.specs.{phase_node}
 use Rattle.rounds.specs.Layers.{CoreLayer}
-use Rattle.rounds.specs.inside.{Rows.row_of, Rows.cell, Rows.never, Asking.AskedMeaning, Asking.IsLayerOf, Walks.Turn, Walks.node_at, Walks.AreWalksReached, Walks.AreCrossingsReached, Walks.AreWalkedBelow, Visits.crossing_node, Visits.IsVisited}
+use Rattle.rounds.specs.inside.{Rows.row_of, Rows.cell, Rows.never, Asking.AskedMeaning, Asking.IsLayerOf, Walks.Turn, Walks.node_at, Walks.AreWalksReached, Walks.AreCrossingsReached, Walks.AreWalkedBelow, Visits.crossing_node, Visits.IsVisited, Riding.AreRidden}
 
 -- labels at crossings have their delays in the rows of these
 abbrev pub HaveCrossed : AskedMeaning → List Label → List (Vec ℕ Global) → Type 0
@@ -29,6 +29,7 @@ pub record AreSettled (a : AskedMeaning) (firsts : List Label) (turns : List Tur
   pub walked : HaveWalked a firsts turns walks
   pub closed : AreWalkedBelow a turns walks rows (length turns)
   pub visited : (q j : ℕ) → q < a.labels.states → j < length a.rounds.crossings.items → cell rows q j < never → IsVisited a rows q j (cell rows q j)
+  pub ridden : AreRidden a rows rows
   pub room : HaveRoom a.rounds.longest walks
 
 -- ---- the labels of what was reached

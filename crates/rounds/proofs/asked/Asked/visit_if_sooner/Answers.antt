@@ -24,7 +24,7 @@ returns-then-lower-clause-visiting g c =
     let visiting = c.requires.visiting in
     let at = cell_found a.labels.states (length a.rounds.crossings.items) old c.args.state c.index.result.now visiting.reached.shape c.requires.state c.index.ensures c.args.crossing delay c.requires.crossing c.index-delay.ensures in
     sooner_visiting a old c.args.visits.now.items c.lower.new.rows.items c.args.state c.args.crossing delay c.requires.state c.requires.crossing at visiting.visited c.lower.ensures.lowered
-    c.visit.new.rows.items c.visit.new.given c.visit.result visiting.shape c.visit.ensures.taken c.visit.ensures.visited c.visit.ensures.given
+    c.visit.new.rows.items c.visit.result visiting.shape c.visit.ensures.taken c.visit.ensures.visited
 
 pub returns-then-lower-clause-here : goal.returns-then-lower-clause-here
 returns-then-lower-clause-here g c =

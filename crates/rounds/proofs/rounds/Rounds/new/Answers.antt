@@ -4,6 +4,7 @@ use Rattle.rounds.proofs.rounds.Rounds.new.Goals as goal
 pub returns-clause-is : goal.returns-clause-is
 returns-clause-is c =
     let crossings = c.in_ok-crossings.ensures in
+    let lines = c.in_ok-lines.ensures in
     let layers = c.in_ok-layers.ensures in
     let graph = c.in_ok-graph.ensures in
     record {
@@ -15,6 +16,9 @@ returns-clause-is c =
       crossings = rw c.in-Some-2.is at crossings.core;
       quiet = rw c.in-Some-2.is at crossings.quiet;
       longest = c.in-Some.ensures;
-      many = rw c.in-Some-4.is at layers.many;
-      layers = rw (c.in-Some-4.is, c.deref-2.ensures.value) at layers.layers;
+      many = rw c.in-Some-5.is at layers.many;
+      layers = rw (c.in-Some-5.is, c.deref-4.ensures.value) at layers.layers;
+      table = c.timetable-timetable.ensures.keeps;
+      timetable_of = c.timetable-timetable.ensures.of;
+      lines = rw (c.in-Some-4.is, c.deref-2.ensures.value) at lines;
     }
